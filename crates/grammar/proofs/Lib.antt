@@ -1,0 +1,4 @@
+pub mod Completeness
+pub mod Soundness
+pub mod Completion
+pub mod Judging

@@ -1,0 +1,5 @@
+pub mod Token
+pub mod Grammar
+pub mod Names
+pub mod Sentence
+pub mod Automaton
