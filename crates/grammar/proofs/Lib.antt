@@ -2,3 +2,4 @@ pub mod Completeness
 pub mod Soundness
 pub mod Completion
 pub mod Judging
+pub mod Lexing

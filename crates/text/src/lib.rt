@@ -1,0 +1,3 @@
+//! A rule text becomes its record.
+mod lexer;
+pub mod token;
