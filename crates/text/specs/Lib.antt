@@ -1,2 +1,4 @@
 pub mod Shown
 pub mod Runs
+pub mod Amounts
+pub mod Nodes

@@ -1,0 +1,30 @@
+//! The nodes of the tree that is being read.
+ghost use Prim.Native.Nat.{_*_, _≤_};
+
+/// How many nodes a rule may have.
+pub(crate) const MOST_NODES: usize = 512;
+
+/// A node, its children by their places in the table.
+#[derive(Clone, Copy)]
+pub(crate) enum Node {
+    Number(i32),
+    Truth(bool),
+    Variable(usize),
+    Function(usize),
+    Application(usize, usize),
+    LetIn(usize, usize),
+    Sum(usize, usize),
+    AtMost(usize, usize),
+    IfElse(usize, usize, usize),
+}
+
+/// Nodes in the order in which they were completed, children before their parents. A text may have
+/// more nodes than a rule: past the table they are only noticed, as one too many.
+pub(crate) struct Table {
+    pub(crate) nodes: [Node; MOST_NODES],
+    pub(crate) count: usize,
+    /// How many bytes the nodes take in a record.
+    pub(crate) bytes: usize,
+    ghost few: { count ≤ 513 },
+    ghost small: { bytes ≤ 5 * count },
+}
