@@ -1,3 +1,5 @@
 pub mod Keywords
 pub mod Lexemes
 pub mod Decimals
+pub mod Finding
+pub mod Naming

@@ -2,3 +2,5 @@ pub mod Shown
 pub mod Runs
 pub mod Amounts
 pub mod Nodes
+pub mod Books
+pub mod Scopes

@@ -112,7 +112,7 @@ fn word<'a>(text: &'a [u8], place: usize) -> Placed<'a>
 }
 
 /// The longest token that begins at a byte, or that byte's place.
-fn token_at<'a>(text: &'a [u8], place: usize) -> Result<Placed<'a>, usize>
+pub(crate) fn token_at<'a>(text: &'a [u8], place: usize) -> Result<Placed<'a>, usize>
     requires { ⌜ place < length (now text) ⌝ }
     ensures { λ r. ⌜ TokenAt (now (text .entry)) place r ⌝ }
 {

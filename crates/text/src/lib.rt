@@ -1,6 +1,11 @@
 //! A rule text becomes its record.
+mod ask;
+pub mod book;
+pub mod fault;
 mod lexer;
+pub mod name;
 mod node;
 mod number;
+mod scope;
 mod table;
 pub mod token;

@@ -1,4 +1,6 @@
 //! The nodes of the tree that is being read.
+ghost use mathlib.Core.Path.{_≡_};
+ghost use lib.ListN.{length};
 ghost use Prim.Native.Nat.{_*_, _≤_};
 
 /// How many nodes a rule may have.
@@ -25,6 +27,7 @@ pub(crate) struct Table {
     pub(crate) count: usize,
     /// How many bytes the nodes take in a record.
     pub(crate) bytes: usize,
+    ghost whole: { length nodes ≡ 512 },
     ghost few: { count ≤ 513 },
     ghost small: { bytes ≤ 5 * count },
 }
