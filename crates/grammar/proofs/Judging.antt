@@ -12,22 +12,10 @@ use Rattle.grammar.specs.Token.{Name, Token, mark, name, numeral, end}
 use Rattle.grammar.specs.Grammar.{Expr, literal, boolean, used, lambda, apply, let-in, plus, at-most, if-else, expr, Derives}
 use Rattle.grammar.specs.Names.{distance, one, two, three, variable-at, resolved}
 use Rattle.grammar.specs.Sentence.{Sentence, Begins, BeginsBound}
-use Rattle.grammar.specs.Automaton.{Frame, State, operand, fun-name, fun-arrow, let-name, let-equals, accepted, Outcome, go, stuck, unknown, applied, start, scope, and-then, step, run, Fits}
+use Rattle.grammar.specs.Automaton.{Frame, State, operand, fun-name, fun-arrow, let-name, let-equals, accepted, Outcome, go, stuck, unknown, applied, start, scope, and-then, step, run, Fits, found, any, in-force}
 use Rattle.grammar.proofs.Completeness.{run-++, run-snoc, run-from, reads-to, end-ends}
 use Rattle.grammar.proofs.Soundness.{spelled, Spelled}
 use Rattle.grammar.proofs.Completion.{accepts}
-
--- every name is allowed
-abbrev pub any : List Name → Name → Bool
-any names x = true
-
-abbrev found : Option ℕ → Bool
-found none = false
-found (some d) = true
-
--- only names in force are allowed
-abbrev pub in-force : List Name → Name → Bool
-in-force names x = found (distance names x)
 
 -- ── names ──
 

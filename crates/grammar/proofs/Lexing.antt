@@ -41,11 +41,6 @@ digit-no-letter c h = grind (arith, tells)
 pub sign-none : (c : ℕ) (cs : List ℕ) → eqb c 45 ≡ false → eqb c 61 ≡ false → eqb c 60 ≡ false → eqb c 43 ≡ false → eqb c 40 ≡ false → eqb c 41 ≡ false → sign (c ∷ cs) ≡ none
 sign-none c cs a b d e f g = rw (a, b, d, e, f, g)
 
-digit-sign : (c : ℕ) (cs : List ℕ) → digit c ≡ true → sign (c ∷ cs) ≡ none
-digit-sign c cs h =
-    let b = digit-bounds c h in
-    sign-none c cs (ne-eqb c 45 (λ e. omega arith)) (ne-eqb c 61 (λ e. omega arith)) (ne-eqb c 60 (λ e. omega arith)) (ne-eqb c 43 (λ e. omega arith)) (ne-eqb c 40 (λ e. omega arith)) (ne-eqb c 41 (λ e. omega arith))
-
 token-word : (c : ℕ) (cs : List ℕ) → letter c ≡ true → all word-byte cs ≡ true → token (c ∷ cs) ≡ some (word (c ∷ cs))
 token-word c cs l w = rw (l, w)
 
@@ -59,8 +54,13 @@ token-no-digits : (c : ℕ) (cs : List ℕ) → digit c ≡ true → all digit c
 token-no-digits c cs d w =
     let l = digit-no-letter c d in
     let b = digit-bounds c d in
-    let m = ne-eqb c 45 (λ e. omega arith) in
-    rw (l, d, w, m) (digit-sign c cs d)
+    let e₁ = ne-eqb c 45 (λ e. omega arith) in
+    let e₂ = ne-eqb c 61 (λ e. omega arith) in
+    let e₃ = ne-eqb c 60 (λ e. omega arith) in
+    let e₄ = ne-eqb c 43 (λ e. omega arith) in
+    let e₅ = ne-eqb c 40 (λ e. omega arith) in
+    let e₆ = ne-eqb c 41 (λ e. omega arith) in
+    rw (l, d, w, e₁, e₂, e₃, e₄, e₅, e₆)
 
 token-minus : (c : ℕ) (cs : List ℕ) → digit c ≡ true → all digit cs ≡ true → token (45 ∷ c ∷ cs) ≡ some (numeral (negℤ (pos (decimal 0 (c ∷ cs)))))
 token-minus c cs d w = rw (d, w)

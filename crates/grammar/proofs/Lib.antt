@@ -3,3 +3,5 @@ pub mod Soundness
 pub mod Completion
 pub mod Judging
 pub mod Lexing
+pub mod Walking
+pub mod Classes

@@ -5,9 +5,11 @@ use mathlib.Core.Bool.{Bool, true, false, cond}
 use mathlib.Core.List.{List, [], _∷_}
 use mathlib.Core.Option.{Option, some, none}
 use mathlib.Core.Path.{_≡_}
+use Prim.Native.Nat.{ℕ}
 use Rattle.grammar.specs.declared.Mark.{Mark}
 use Rattle.grammar.specs.declared.Mark.the-variants.{Fun, Let, In, If, Then, Else, True, False, Arrow, Equals, AtMost, Plus, Open, Close}
 use Rattle.grammar.specs.Token.{Name, Token, mark, name, numeral, end, is}
+use Rattle.grammar.specs.Names.{distance}
 use Rattle.grammar.specs.Grammar.{Expr, literal, boolean, used, lambda, apply, let-in, plus, at-most, if-else}
 
 -- what is open around the expression that is being read
@@ -157,3 +159,37 @@ module _ (allowed : List Name → Name → Bool) (book : List Name) where
   Fits names (plus e f) = Fits names e × Fits names f
   Fits names (at-most e f) = Fits names e × Fits names f
   Fits names (if-else e f g) = Fits names e × (Fits names f × Fits names g)
+
+-- ── which names may be used ──
+
+abbrev pub found : Option ℕ → Bool
+found none = false
+found (some d) = true
+
+-- every name is allowed
+abbrev pub any : List Name → Name → Bool
+any names x = true
+
+-- only names in force are allowed
+abbrev pub in-force : List Name → Name → Bool
+in-force names x = found (distance names x)
+
+-- whether a token begins an atom
+abbrev pub starts-atom : Token → Bool
+starts-atom (mark Fun) = false
+starts-atom (mark Let) = false
+starts-atom (mark In) = false
+starts-atom (mark If) = false
+starts-atom (mark Then) = false
+starts-atom (mark Else) = false
+starts-atom (mark True) = true
+starts-atom (mark False) = true
+starts-atom (mark Arrow) = false
+starts-atom (mark Equals) = false
+starts-atom (mark AtMost) = false
+starts-atom (mark Plus) = false
+starts-atom (mark Open) = true
+starts-atom (mark Close) = false
+starts-atom (name x) = true
+starts-atom (numeral z) = true
+starts-atom end = false

@@ -5,3 +5,5 @@ pub mod Spelling
 pub mod Reading
 pub mod Sentence
 pub mod Automaton
+pub mod Walking
+pub mod Classes

@@ -72,14 +72,14 @@ sign w =
     (cond (same w (codes "(")) (some (mark Open))
     (cond (same w (codes ")")) (some (mark Close)) none)))))
 
+abbrev pub or-else : Option Token → Option Token → Option Token
+or-else none other = other
+or-else (some t) other = some t
+
 -- the token that these bytes spell, if they spell one
 abbrev pub token : List ℕ → Option Token
 token [] = none
-token (c ∷ cs) = cond (letter c) (cond (all word-byte cs) (some (word (c ∷ cs))) none) (or-sign (number c cs))
-  where
-    or-sign : Option Token → Option Token
-    or-sign none = sign (c ∷ cs)
-    or-sign (some t) = some t
+token (c ∷ cs) = cond (letter c) (cond (all word-byte cs) (some (word (c ∷ cs))) none) (or-else (number c cs) (sign (c ∷ cs)))
 
 -- -2147483648 to 2147483647
 abbrev pub in-range : ℤ → Bool

@@ -15,7 +15,7 @@ use Rattle.grammar.specs.Token.{mark, numeral}
 use Rattle.grammar.specs.Token as plain
 use Rattle.grammar.specs.Spelling.{letter, digit, decimal, token}
 use Rattle.grammar.specs.Reading.{part, Longest, NoneBeyond}
-use Rattle.grammar.proofs.Lexing.{part-cons, longest-digits, longest-minus, none-at, sign-none}
+use Rattle.grammar.proofs.Lexing.{part-cons, longest-digits, longest-minus, none-at}
 use Rattle.text.specs.declared.token.Placed.{Placed}
 use Rattle.text.specs.declared.lexer.Kind.the-variants.{Digit}
 use Rattle.text.specs.Shown.{value, shown}
@@ -58,4 +58,4 @@ no-less s a e no-equals = none-at s a 60 e refl (λ lt r. let n = ne-eqb (getD s
 
 -- a byte that begins no token
 pub no-token : (s : List ℕ) (a : ℕ) → letter (getD s a 0) ≡ false → digit (getD s a 0) ≡ false → eqb (getD s a 0) 45 ≡ false → eqb (getD s a 0) 61 ≡ false → eqb (getD s a 0) 60 ≡ false → eqb (getD s a 0) 43 ≡ false → eqb (getD s a 0) 40 ≡ false → eqb (getD s a 0) 41 ≡ false → NoneBeyond s a a
-no-token s a l d e₁ e₂ e₃ e₄ e₅ e₆ = none-at s a (getD s a 0) refl (rw (l, d, e₁) (sign-none (getD s a 0) [] e₁ e₂ e₃ e₄ e₅ e₆)) (λ lt r. rw (l, d, e₁) (sign-none (getD s a 0) (getD s (a + 1) 0 ∷ r) e₁ e₂ e₃ e₄ e₅ e₆))
+no-token s a l d e₁ e₂ e₃ e₄ e₅ e₆ = none-at s a (getD s a 0) refl (rw (l, d, e₁, e₂, e₃, e₄, e₅, e₆)) (λ lt r. rw (l, d, e₁, e₂, e₃, e₄, e₅, e₆))
