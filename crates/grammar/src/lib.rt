@@ -8,7 +8,7 @@
 //! whether they begin a sentence.
 
 /// A keyword or a sign: a token that is spelled in one way only.
-#[derive(Clone, Copy, Debug)]
+#[derive(Clone, Copy, Debug, PartialEq, Eq)]
 pub enum Mark {
     Fun,
     Let,

@@ -3,3 +3,5 @@ pub mod Lexemes
 pub mod Decimals
 pub mod Finding
 pub mod Naming
+pub mod Amounting
+pub mod Turns

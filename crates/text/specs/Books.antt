@@ -9,7 +9,7 @@ use lib.ListN.{length, take}
 use Prim.Native.Nat.{ℕ, _+_, _≤_, _<_}
 use Rattle.grammar.specs.Names.{distance}
 use Rattle.grammar.specs.Spelling.{token}
-use Rattle.grammar.specs.Token.{name}
+use Rattle.grammar.specs.Walking.{is-name}
 use Rattle.grammar.specs.Token as plain
 use Rattle.std.specs.declared.option.Option.{Option}
 use Rattle.std.specs.declared.option.Option.the-variants.{Some, None}
@@ -33,10 +33,7 @@ Found xs x None = distance xs x ≡ none
 
 abbrev pub named : Lookup.Option plain.Token → Bool
 named none = false
-named (some (plain.mark m)) = false
-named (some (plain.name x)) = true
-named (some (plain.numeral z)) = false
-named (some plain.end) = false
+named (some t) = is-name t
 
 abbrev pub absent : Lookup.Option ℕ → Bool
 absent none = true

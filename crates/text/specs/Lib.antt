@@ -4,3 +4,5 @@ pub mod Amounts
 pub mod Nodes
 pub mod Books
 pub mod Scopes
+pub mod Faults
+pub mod Parsing

@@ -1,15 +1,39 @@
 //! Questions to a token.
-ghost use mathlib.Core.Option.{some};
 ghost use mathlib.Core.Path.{_≡_};
-ghost use Rattle.text.specs.Books.{named};
+ghost use Rattle.grammar.specs.Automaton.{starts-atom};
+ghost use Rattle.grammar.specs.Token.{is};
+ghost use Rattle.grammar.specs.Walking.{is-name};
 ghost use Rattle.text.specs.Shown.{shown};
 use crate::token::Token;
+use grammar::Mark;
+use grammar::MarkPartialEq;
 
 impl Token<'_> {
     /// Whether it is a name.
     pub(crate) fn is_name(&self) -> bool
-        ensures { λ r. ⌜ r ≡ named (some (shown (now (self .entry)))) ⌝ }
+        ensures { λ r. ⌜ r ≡ is-name (shown (now (self .entry))) ⌝ }
     {
         matches!(self, Token::Name(_))
+    }
+
+    /// Whether it is this keyword or sign.
+    pub(crate) fn is(&self, mark: Mark) -> bool
+        ensures { λ r. ⌜ r ≡ Rattle.grammar.specs.Token.is mark (shown (now (self .entry))) ⌝ }
+    {
+        match self {
+            Token::Mark(own) => *own == mark,
+            _ => false,
+        }
+    }
+
+    /// Whether an atom begins with it.
+    pub(crate) fn starts_atom(&self) -> bool
+        ensures { λ r. ⌜ r ≡ starts-atom (shown (now (self .entry))) ⌝ }
+    {
+        match self {
+            Token::Name(_) | Token::Number(_) => true,
+            Token::Mark(Mark::True) | Token::Mark(Mark::False) | Token::Mark(Mark::Open) => true,
+            _ => false,
+        }
     }
 }

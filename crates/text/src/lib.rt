@@ -6,6 +6,8 @@ mod lexer;
 pub mod name;
 mod node;
 mod number;
+mod parser;
+pub mod refusal;
 mod scope;
 mod table;
 pub mod token;
