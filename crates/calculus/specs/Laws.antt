@@ -1,0 +1,41 @@
+-- What is proved of every rule. Assumes nothing.
+use mathlib.Core.List.{List, []}
+use mathlib.Core.Logic.{_↔_}
+use mathlib.Core.Path.{_≡_}
+use lib.IntN.{ℤ}
+use lib.ListN.{length}
+use Prim.Native.Nat.{ℕ}
+use Rattle.syntax.specs.Tree.{Tree}
+use Rattle.calculus.specs.Term.{Term}
+use Rattle.calculus.specs.Types.{Ty, Has, Rule-has, Belongs}
+use Rattle.calculus.specs.Rules.{_⟶_}
+use Rattle.calculus.specs.Stages.{rests, stuck, to, step, start, stage}
+use Rattle.calculus.specs.Length.{Length}
+
+-- no stage of a typed rule is stuck, whatever is read
+abbrev pub Never-stuck : Type 0
+Never-stuck = (t : Tree) (τ : Ty) (readings : List ℤ) → Rule-has (length readings) t τ → (n : ℕ) → ¬ (step (stage n (start readings t)) ≡ stuck)
+
+-- putting readings in keeps every type, and so does each reduction
+pub record Keeps-types : Type 0 where
+  pub at-start : (t : Tree) (τ : Ty) (readings : List ℤ) → Rule-has (length readings) t τ → Has [] (start readings t) τ
+  pub at-step : (t u : Term) (τ : Ty) → Has [] t τ → t ⟶ u → Has [] u τ
+
+-- every typed rule has a length, whatever is read, and one only
+pub record Has-length : Type 0 where
+  pub some-length : (t : Tree) (τ : Ty) (readings : List ℤ) → Rule-has (length readings) t τ → (n : ℕ) × Length (start readings t) n
+  pub one-length : (t : Term) (m n : ℕ) → Length t m → Length t n → m ≡ n
+
+-- a stage at rest is a value, and belongs to every type of its rule
+abbrev pub Value-belongs : Type 0
+Value-belongs =
+    (t : Tree) (τ : Ty) (readings : List ℤ) →
+    Rule-has (length readings) t τ →
+    (n : ℕ) →
+    step (stage n (start readings t)) ≡ rests →
+    Belongs (stage n (start readings t)) τ
+
+-- stages are determined: a step is what the rules say, and they never say two things
+pub record Determined : Type 0 where
+  pub by-the-rules : (t u : Term) → (t ⟶ u) ↔ (step t ≡ to u)
+  pub one-way : (t u v : Term) → t ⟶ u → t ⟶ v → u ≡ v

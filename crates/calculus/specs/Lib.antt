@@ -1,0 +1,7 @@
+pub mod Term
+pub mod Types
+pub mod Rules
+pub mod Stages
+pub mod Length
+pub mod Laws
+pub mod Figures

@@ -1,0 +1,40 @@
+-- The reductions as rules. Assumes nothing.
+use mathlib.Core.Bool.{Bool, true, false}
+use mathlib.Core.Path.{_≡_}
+use lib.IntN.{ℤ, _+ℤ_}
+use lib.Signed.{leZ}
+use Prim.Native.Nat.{ℕ}
+use Rattle.calculus.specs.Term.{Term, number, truth, variable, function, application, let-in, sum, at-most, if-else, is-value, put-one}
+use Rattle.calculus.specs.Stages.{in-range}
+
+infix 3 _⟶_
+
+-- One reduction. A rule that works on a left child asks for a value on the right.
+pub data _⟶_ : Term → Term → Type 0 where
+  --   (fun x -> b) v ⟶ b[v/x]
+  apply-function : {n m : ℕ} {b v : Term} → is-value v ≡ true → application n (function m b) v ⟶ put-one v b
+  --   a ⟶ a′  gives  f a ⟶ f a′
+  argument : {n : ℕ} {f a a′ : Term} → a ⟶ a′ → application n f a ⟶ application n f a′
+  --   f ⟶ f′  gives  f v ⟶ f′ v
+  applied : {n : ℕ} {f f′ v : Term} → is-value v ≡ true → f ⟶ f′ → application n f v ⟶ application n f′ v
+  --   let x = v in b ⟶ b[v/x]
+  let-value : {n : ℕ} {v b : Term} → is-value v ≡ true → let-in n v b ⟶ put-one v b
+  --   e ⟶ e′  gives  let x = e in b ⟶ let x = e′ in b
+  bound : {n : ℕ} {e e′ b : Term} → e ⟶ e′ → let-in n e b ⟶ let-in n e′ b
+  --   i + j ⟶ k  with k = i + j, in range
+  sum-numbers : {n : ℕ} {i j : ℤ} → in-range (i +ℤ j) ≡ true → sum n (number i) (number j) ⟶ number (i +ℤ j)
+  --   r ⟶ r′  gives  l + r ⟶ l + r′
+  sum-right : {n : ℕ} {l r r′ : Term} → r ⟶ r′ → sum n l r ⟶ sum n l r′
+  --   l ⟶ l′  gives  l + v ⟶ l′ + v
+  sum-left : {n : ℕ} {l l′ v : Term} → is-value v ≡ true → l ⟶ l′ → sum n l v ⟶ sum n l′ v
+  --   i <= j ⟶ true or false
+  compare-numbers : {n : ℕ} {i j : ℤ} → at-most n (number i) (number j) ⟶ truth (leZ i j)
+  --   r ⟶ r′  gives  l <= r ⟶ l <= r′
+  compare-right : {n : ℕ} {l r r′ : Term} → r ⟶ r′ → at-most n l r ⟶ at-most n l r′
+  --   l ⟶ l′  gives  l <= v ⟶ l′ <= v
+  compare-left : {n : ℕ} {l l′ v : Term} → is-value v ≡ true → l ⟶ l′ → at-most n l v ⟶ at-most n l′ v
+  --   if true then t else e ⟶ t      if false then t else e ⟶ e
+  if-true : {n : ℕ} {t e : Term} → if-else n (truth true) t e ⟶ t
+  if-false : {n : ℕ} {t e : Term} → if-else n (truth false) t e ⟶ e
+  --   c ⟶ c′  gives  if c then t else e ⟶ if c′ then t else e
+  condition : {n : ℕ} {c c′ t e : Term} → c ⟶ c′ → if-else n c t e ⟶ if-else n c′ t e
