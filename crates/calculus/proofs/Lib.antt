@@ -1,1 +1,5 @@
 pub mod Substitution
+pub mod Typing
+pub mod Reduction
+pub mod Safety
+pub mod Ending
