@@ -87,7 +87,7 @@ runs-value τ t v e h = subst (λ x. Runs (Sem τ) x) (sym e) (done (sem-rests �
 runs-apply : (n : ℕ) (p τ : Ty) (f v : Term) → step v ≡ rests → Sem p v → Sem (p ⇒ τ) f → Runs (Sem τ) (application n f v)
 runs-apply n p τ f v e h (m, b, q, c, r) =
     subst (λ x. Runs (Sem τ) (application n x v)) (sym q)
-      (goes (ap (λ x. right-left (application n) (function m b) v rests x (to (put-one v b))) e) (r v h))
+    (goes (ap (λ x. right-left (application n) (function m b) v rests x (to (put-one v b))) e) (r v h))
 
 runs-add : (n : ℕ) (τ : Ty) (i j : ℤ) → τ ≡ int → (b : Bool) → in-range (i +ℤ j) ≡ b → Runs (Sem τ) (sum n (number i) (number j))
 runs-add n τ i j e true q =
@@ -97,13 +97,13 @@ runs-add n τ i j e false q = leaves n (ap (λ x. cond x (to (number (i +ℤ j))
 runs-sum : (n : ℕ) (τ : Ty) (l r : Term) → τ ≡ int → Sem int l → Sem int r → Runs (Sem τ) (sum n l r)
 runs-sum n τ l r e (i, p) (j, q) =
     subst (λ x. Runs (Sem τ) (sum n x r)) (sym p)
-      (subst (λ x. Runs (Sem τ) (sum n (number i) x)) (sym q) (runs-add n τ i j e (in-range (i +ℤ j)) refl))
+    (subst (λ x. Runs (Sem τ) (sum n (number i) x)) (sym q) (runs-add n τ i j e (in-range (i +ℤ j)) refl))
 
 runs-compare : (n : ℕ) (τ : Ty) (l r : Term) → τ ≡ bool → Sem int l → Sem int r → Runs (Sem τ) (at-most n l r)
 runs-compare n τ l r e (i, p) (j, q) =
     subst (λ x. Runs (Sem τ) (at-most n x r)) (sym p)
-      (subst (λ x. Runs (Sem τ) (at-most n (number i) x)) (sym q)
-        (goes {t = at-most n (number i) (number j)} refl (done refl (subst (λ x. Sem x (truth (leZ i j))) (sym e) (leZ i j, refl)))))
+    (subst (λ x. Runs (Sem τ) (at-most n (number i) x)) (sym q)
+    (goes {t = at-most n (number i) (number j)} refl (done refl (subst (λ x. Sem x (truth (leZ i j))) (sym e) (leZ i j, refl)))))
 
 runs-choose : (n : ℕ) (τ : Ty) (c t e : Term) → Runs (Sem τ) t → Runs (Sem τ) e → Sem bool c → Runs (Sem τ) (if-else n c t e)
 runs-choose n τ c t e h i (b, q) = subst (λ x. Runs (Sem τ) (if-else n x t e)) (sym q) (either b)
@@ -119,11 +119,11 @@ runs-operands : {P Q R : Term → Type 0} (node : Term → Term → Term) (reduc
     {l r : Term} → Runs P l → Runs Q r → Runs R (node l r)
 runs-operands node reduce eq onto {l} {r} h i =
     bind (λ y. node l y) (λ y. first (step l) (λ z. node z y) (reduce l y)) (λ y. eq l y)
-      (λ v e q. bind (λ z. node z v) (λ z. reduce z v)
-        (λ z. eq z v ∙ ap (λ x. first x (λ y. node z y) (first (step z) (λ y. node y v) (reduce z v))) e)
-        (λ w f p. onto w v e p q)
-        h)
-      i
+    (λ v e q. bind (λ z. node z v) (λ z. reduce z v)
+    (λ z. eq z v ∙ ap (λ x. first x (λ y. node z y) (first (step z) (λ y. node y v) (reduce z v))) e)
+    (λ w f p. onto w v e p q)
+    h)
+    i
 
 -- every typed term runs, with values of the right types put in
 runs : (Γ : List Ty) (vs : List Term) (t : Term) (τ : Ty) → Sems vs Γ → Has Γ t τ → Runs (Sem τ) (put zero vs t)
@@ -134,31 +134,31 @@ runs Γ vs (variable d) τ s e =
     runs-value τ (or-else (find zero vs d) (variable d)) (f .0) (ap (λ o. or-else o (variable d)) (f .1)) (f .2)
 runs Γ vs (function n b) τ s (p, q, e, h) =
     done refl
-      (subst (λ x. Sem x (function n (put 1 vs b))) (sym e)
-        ( n
-        , put 1 vs b
-        , refl
-        , put-closes (suc (length Γ)) 1 vs b (omega (arith, sems-length vs Γ s)) (sems-closed vs Γ s) (has-closed (p ∷ Γ) b q h)
-        , λ w i. subst (λ x. Runs (Sem q) x) (sym (put-put zero w vs b (sems-closed vs Γ s))) (runs (p ∷ Γ) (w ∷ vs) b q (i, s) h)
-        ))
+    (subst (λ x. Sem x (function n (put 1 vs b))) (sym e) (
+      n,
+      put 1 vs b,
+      refl,
+      put-closes (suc (length Γ)) 1 vs b (omega (arith, sems-length vs Γ s)) (sems-closed vs Γ s) (has-closed (p ∷ Γ) b q h),
+      λ w i. subst (λ x. Runs (Sem q) x) (sym (put-put zero w vs b (sems-closed vs Γ s))) (runs (p ∷ Γ) (w ∷ vs) b q (i, s) h),
+    ))
 runs Γ vs (application n f a) τ s (p, h, i) =
     runs-operands (application n) (λ l r. apply (body-of l) r) (λ l r. refl) (λ l r e u v. runs-apply n p τ l r e v u)
-      (runs Γ vs f (p ⇒ τ) s h) (runs Γ vs a p s i)
+    (runs Γ vs f (p ⇒ τ) s h) (runs Γ vs a p s i)
 runs Γ vs (let-in n e b) τ s (p, h, i) =
     bind (λ y. let-in n y (put 1 vs b)) (λ y. to (put-one y (put 1 vs b))) (λ y. refl)
-      (λ v r w. goes (ap (λ x. first x (λ y. let-in n y (put 1 vs b)) (to (put-one v (put 1 vs b)))) r)
-        (subst (λ x. Runs (Sem τ) x) (sym (put-put zero v vs b (sems-closed vs Γ s))) (runs (p ∷ Γ) (v ∷ vs) b τ (w, s) i)))
-      (runs Γ vs e p s h)
+    (λ v r w. goes (ap (λ x. first x (λ y. let-in n y (put 1 vs b)) (to (put-one v (put 1 vs b)))) r)
+    (subst (λ x. Runs (Sem τ) x) (sym (put-put zero v vs b (sems-closed vs Γ s))) (runs (p ∷ Γ) (v ∷ vs) b τ (w, s) i)))
+    (runs Γ vs e p s h)
 runs Γ vs (sum n l r) τ s (e, h, i) =
     runs-operands (sum n) (λ l r. add n (number-of l) (number-of r)) (λ l r. refl) (λ l r f u v. runs-sum n τ l r e u v)
-      (runs Γ vs l int s h) (runs Γ vs r int s i)
+    (runs Γ vs l int s h) (runs Γ vs r int s i)
 runs Γ vs (at-most n l r) τ s (e, h, i) =
     runs-operands (at-most n) (λ l r. compare (number-of l) (number-of r)) (λ l r. refl) (λ l r f u v. runs-compare n τ l r e u v)
-      (runs Γ vs l int s h) (runs Γ vs r int s i)
+    (runs Γ vs l int s h) (runs Γ vs r int s i)
 runs Γ vs (if-else n c t e) τ s (h, i, j) =
     bind (λ y. if-else n y (put zero vs t) (put zero vs e)) (λ y. choose (truth-of y) (put zero vs t) (put zero vs e)) (λ y. refl)
-      (λ v r w. runs-choose n τ v (put zero vs t) (put zero vs e) (runs Γ vs t τ s i) (runs Γ vs e τ s j) w)
-      (runs Γ vs c bool s h)
+    (λ v r w. runs-choose n τ v (put zero vs t) (put zero vs e) (runs Γ vs t τ s i) (runs Γ vs e τ s j) w)
+    (runs Γ vs c bool s h)
 
 -- what runs has a length
 
@@ -170,7 +170,7 @@ length-behind : (t u : Term) (n : ℕ) → step t ≡ to u → Length u n → Le
 length-behind t u n e l =
     record {
       last = ap (λ x. over x) (stage-behind n t u e) ∙ l .last;
-      earlier = earlier
+      earlier = earlier;
     }
   where
     earlier : (m : ℕ) → m < suc n → over (stage m t) ≡ false
@@ -206,7 +206,7 @@ pub has-length : Has-length
 has-length =
     record {
       some-length = λ t τ readings h. runs-length (runs (replicate (length readings) int) (map number readings) (numbered 0 t) τ (readings-sems readings) h);
-      one-length = one-length
+      one-length = one-length;
     }
 
 -- a length by computation
@@ -230,6 +230,7 @@ none-before-earlier (suc n) t e m h = either (ℕ-discrete m n) (none-before-ear
   where
     p : (not (over (stage n t)) ≡ true) × (none-before n t ≡ true)
     p = both (not (over (stage n t))) (none-before n t) e
+
     either : Dec (m ≡ n) → (m < n → over (stage m t) ≡ false) → over (stage m t) ≡ false
     either (yes q) inner = subst (λ k. over (stage k t) ≡ false) (sym q) (not-not (over (stage n t)) (p .0))
     either (no q) inner = inner (omega arith)

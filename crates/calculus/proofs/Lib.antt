@@ -3,3 +3,4 @@ pub mod Typing
 pub mod Reduction
 pub mod Safety
 pub mod Ending
+pub mod Figures

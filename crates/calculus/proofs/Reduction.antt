@@ -42,12 +42,12 @@ rule-step (sum-numbers {n} {i} {j} e) = ap (λ x. cond x (to (number (i +ℤ j))
 rule-step (sum-right {n} {l} {r} s) = ap (λ x. right-left (sum n) l r (step l) x (add n (number-of l) (number-of r))) (rule-step s)
 rule-step (sum-left {n} {l} {l′} {v} e s) =
     ap (λ x. right-left (sum n) l v (step l) x (add n (number-of l) (number-of v))) (value-rests v e) ∙
-      ap (λ x. first x (λ y. sum n y v) (add n (number-of l) (number-of v))) (rule-step s)
+    ap (λ x. first x (λ y. sum n y v) (add n (number-of l) (number-of v))) (rule-step s)
 rule-step compare-numbers = refl
 rule-step (compare-right {n} {l} {r} s) = ap (λ x. right-left (at-most n) l r (step l) x (compare (number-of l) (number-of r))) (rule-step s)
 rule-step (compare-left {n} {l} {l′} {v} e s) =
     ap (λ x. right-left (at-most n) l v (step l) x (compare (number-of l) (number-of v))) (value-rests v e) ∙
-      ap (λ x. first x (λ y. at-most n y v) (compare (number-of l) (number-of v))) (rule-step s)
+    ap (λ x. first x (λ y. at-most n y v) (compare (number-of l) (number-of v))) (rule-step s)
 rule-step if-true = refl
 rule-step if-false = refl
 rule-step (condition {n} {c} {c′} {t} {e} r) = ap (λ x. first x (λ y. if-else n y t e) (choose (truth-of c) t e)) (rule-step r)
@@ -103,14 +103,14 @@ add-in-range n i j false e = tt
 add-allowed : (n : ℕ) (l r : Term) {x y : Option ℤ} → Number l x → Number r y → Allowed (sum n l r) (add n x y)
 add-allowed n l r (a-number i e) (a-number j f) =
     subst (λ w. Allowed (sum n w r) (add n (some i) (some j))) (sym e)
-      (subst (λ w. Allowed (sum n (number i) w) (add n (some i) (some j))) (sym f) (add-in-range n i j (in-range (i +ℤ j)) refl))
+    (subst (λ w. Allowed (sum n (number i) w) (add n (some i) (some j))) (sym f) (add-in-range n i j (in-range (i +ℤ j)) refl))
 add-allowed n l r (a-number i e) no-number = tt
 add-allowed n l r no-number y = tt
 
 compare-allowed : (n : ℕ) (l r : Term) {x y : Option ℤ} → Number l x → Number r y → Allowed (at-most n l r) (compare x y)
 compare-allowed n l r (a-number i e) (a-number j f) =
     subst (λ w. Allowed (at-most n w r) (compare (some i) (some j))) (sym e)
-      (subst (λ w. Allowed (at-most n (number i) w) (compare (some i) (some j))) (sym f) compare-numbers)
+    (subst (λ w. Allowed (at-most n (number i) w) (compare (some i) (some j))) (sym f) compare-numbers)
 compare-allowed n l r (a-number i e) no-number = tt
 compare-allowed n l r no-number y = tt
 
@@ -133,21 +133,21 @@ step-allowed (variable d) = tt
 step-allowed (function n b) = refl
 step-allowed (application n f a) =
     first-allowed a (application n f a) (λ y. application n f y) (step a) (first (step f) (λ y. application n y a) (apply (body-of f) a))
-      (λ u s. argument s)
-      (λ v. first-allowed f (application n f a) (λ y. application n y a) (step f) (apply (body-of f) a) (λ u s. applied v s) (λ w. apply-allowed n f a v) (step-allowed f))
-      (step-allowed a)
+    (λ u s. argument s)
+    (λ v. first-allowed f (application n f a) (λ y. application n y a) (step f) (apply (body-of f) a) (λ u s. applied v s) (λ w. apply-allowed n f a v) (step-allowed f))
+    (step-allowed a)
 step-allowed (let-in n e b) =
     first-allowed e (let-in n e b) (λ y. let-in n y b) (step e) (to (put-one e b)) (λ u s. bound s) (λ v. let-value v) (step-allowed e)
 step-allowed (sum n l r) =
     first-allowed r (sum n l r) (λ y. sum n l y) (step r) (first (step l) (λ y. sum n y r) (add n (number-of l) (number-of r)))
-      (λ u s. sum-right s)
-      (λ v. first-allowed l (sum n l r) (λ y. sum n y r) (step l) (add n (number-of l) (number-of r)) (λ u s. sum-left v s) (λ w. add-allowed n l r (number-view l) (number-view r)) (step-allowed l))
-      (step-allowed r)
+    (λ u s. sum-right s)
+    (λ v. first-allowed l (sum n l r) (λ y. sum n y r) (step l) (add n (number-of l) (number-of r)) (λ u s. sum-left v s) (λ w. add-allowed n l r (number-view l) (number-view r)) (step-allowed l))
+    (step-allowed r)
 step-allowed (at-most n l r) =
     first-allowed r (at-most n l r) (λ y. at-most n l y) (step r) (first (step l) (λ y. at-most n y r) (compare (number-of l) (number-of r)))
-      (λ u s. compare-right s)
-      (λ v. first-allowed l (at-most n l r) (λ y. at-most n y r) (step l) (compare (number-of l) (number-of r)) (λ u s. compare-left v s) (λ w. compare-allowed n l r (number-view l) (number-view r)) (step-allowed l))
-      (step-allowed r)
+    (λ u s. compare-right s)
+    (λ v. first-allowed l (at-most n l r) (λ y. at-most n y r) (step l) (compare (number-of l) (number-of r)) (λ u s. compare-left v s) (λ w. compare-allowed n l r (number-view l) (number-view r)) (step-allowed l))
+    (step-allowed r)
 step-allowed (if-else n c t e) =
     first-allowed c (if-else n c t e) (λ y. if-else n y t e) (step c) (choose (truth-of c) t e) (λ u s. condition s) (λ v. choose-allowed n c t e) (step-allowed c)
 
@@ -161,5 +161,5 @@ pub determined : Determined
 determined =
     record {
       by-the-rules = λ t u. (rule-step, step-rule t u);
-      one-way = λ t u v p q. to-injective t u v (rule-step p) (rule-step q)
+      one-way = λ t u v p q. to-injective t u v (rule-step p) (rule-step q);
     }

@@ -69,7 +69,7 @@ apply-good n (if-else m c t x) v p τ h i b = absurd b
 add-good : (n : ℕ) (l r : Term) (τ : Ty) → τ ≡ int → (i : ℤ) × (l ≡ number i) → (j : ℤ) × (r ≡ number j) → Good (sum n l r) τ (add n (number-of l) (number-of r))
 add-good n l r τ e (i, p) (j, q) =
     subst (λ x. Good (sum n l r) τ (add n (number-of x) (number-of r))) (sym p)
-      (subst (λ x. Good (sum n l r) τ (add n (some i) (number-of x))) (sym q) (in-or-out (in-range (i +ℤ j))))
+    (subst (λ x. Good (sum n l r) τ (add n (some i) (number-of x))) (sym q) (in-or-out (in-range (i +ℤ j))))
   where
     in-or-out : (b : Bool) → Good (sum n l r) τ (cond b (to (number (i +ℤ j))) (beyond n))
     in-or-out true = e
@@ -78,7 +78,7 @@ add-good n l r τ e (i, p) (j, q) =
 compare-good : (n : ℕ) (l r : Term) (τ : Ty) → τ ≡ bool → (i : ℤ) × (l ≡ number i) → (j : ℤ) × (r ≡ number j) → Good (at-most n l r) τ (compare (number-of l) (number-of r))
 compare-good n l r τ e (i, p) (j, q) =
     subst (λ x. Good (at-most n l r) τ (compare (number-of x) (number-of r))) (sym p)
-      (subst (λ x. Good (at-most n l r) τ (compare (some i) (number-of x))) (sym q) e)
+    (subst (λ x. Good (at-most n l r) τ (compare (some i) (number-of x))) (sym q) e)
 
 choose-good : (n : ℕ) (c t e : Term) (τ : Ty) → Has [] t τ → Has [] e τ → (b : Bool) × (c ≡ truth b) → Good (if-else n c t e) τ (choose (truth-of c) t e)
 choose-good n c t e τ h i (b, p) = subst (λ x. Good (if-else n c t e) τ (choose (truth-of x) t e)) (sym p) (either b)
@@ -94,21 +94,21 @@ step-good (variable d) τ h = let z : _≡_ {A = ℕ} 0 1 = cc in absurd (omega 
 step-good (function n b) τ (p, s, e, h) = (p, s, e)
 step-good (application n f a) τ (p, h, i) =
     first-good a (application n f a) p τ (λ y. application n f y) (step a) (first (step f) (λ y. application n y a) (apply (body-of f) a))
-      (λ u s. (p, h, s))
-      (λ v. first-good f (application n f a) (p ⇒ τ) τ (λ y. application n y a) (step f) (apply (body-of f) a) (λ u s. (p, s, i)) (λ w. apply-good n f a p τ i h w) (step-good f (p ⇒ τ) h))
-      (step-good a p i)
+    (λ u s. (p, h, s))
+    (λ v. first-good f (application n f a) (p ⇒ τ) τ (λ y. application n y a) (step f) (apply (body-of f) a) (λ u s. (p, s, i)) (λ w. apply-good n f a p τ i h w) (step-good f (p ⇒ τ) h))
+    (step-good a p i)
 step-good (let-in n e b) τ (p, h, i) =
     first-good e (let-in n e b) p τ (λ y. let-in n y b) (step e) (to (put-one e b)) (λ u s. (p, s, i)) (λ v. put-one-has p τ e b h i) (step-good e p h)
 step-good (sum n l r) τ (e, h, i) =
     first-good r (sum n l r) int τ (λ y. sum n l y) (step r) (first (step l) (λ y. sum n y r) (add n (number-of l) (number-of r)))
-      (λ u s. (e, h, s))
-      (λ v. first-good l (sum n l r) int τ (λ y. sum n y r) (step l) (add n (number-of l) (number-of r)) (λ u s. (e, s, i)) (λ w. add-good n l r τ e (belongs-int l w) (belongs-int r v)) (step-good l int h))
-      (step-good r int i)
+    (λ u s. (e, h, s))
+    (λ v. first-good l (sum n l r) int τ (λ y. sum n y r) (step l) (add n (number-of l) (number-of r)) (λ u s. (e, s, i)) (λ w. add-good n l r τ e (belongs-int l w) (belongs-int r v)) (step-good l int h))
+    (step-good r int i)
 step-good (at-most n l r) τ (e, h, i) =
     first-good r (at-most n l r) int τ (λ y. at-most n l y) (step r) (first (step l) (λ y. at-most n y r) (compare (number-of l) (number-of r)))
-      (λ u s. (e, h, s))
-      (λ v. first-good l (at-most n l r) int τ (λ y. at-most n y r) (step l) (compare (number-of l) (number-of r)) (λ u s. (e, s, i)) (λ w. compare-good n l r τ e (belongs-int l w) (belongs-int r v)) (step-good l int h))
-      (step-good r int i)
+    (λ u s. (e, h, s))
+    (λ v. first-good l (at-most n l r) int τ (λ y. at-most n y r) (step l) (compare (number-of l) (number-of r)) (λ u s. (e, s, i)) (λ w. compare-good n l r τ e (belongs-int l w) (belongs-int r v)) (step-good l int h))
+    (step-good r int i)
 step-good (if-else n c t e) τ (h, i, j) =
     first-good c (if-else n c t e) bool τ (λ y. if-else n y t e) (step c) (choose (truth-of c) t e) (λ u s. (s, i, j)) (λ v. choose-good n c t e τ i j (belongs-bool c v)) (step-good c bool h)
 
@@ -135,7 +135,7 @@ pub keeps-types : Keeps-types
 keeps-types =
     record {
       at-start = start-has;
-      at-step = λ t u τ h r. subst (λ x. Good t τ x) (rule-step r) (step-good t τ h)
+      at-step = λ t u τ h r. subst (λ x. Good t τ x) (rule-step r) (step-good t τ h);
     }
 
 pub value-belongs : Value-belongs

@@ -31,16 +31,16 @@ found zero [] d c = is-beyond refl (omega arith)
 found zero (v ∷ vs) zero c = is-in v refl (c .0)
 found zero (v ∷ vs) (suc d) c =
     elim (found zero vs d (c .1)) [
-      is-in w e h ↦ is-in w e h
-    | is-near e h ↦ absurd (omega arith)
-    | is-beyond e h ↦ is-beyond e (omega arith)
+      | is-in w e h ↦ is-in w e h
+      | is-near e h ↦ absurd (omega arith)
+      | is-beyond e h ↦ is-beyond e (omega arith)
     ]
 found (suc k) vs zero c = is-near refl (omega arith)
 found (suc k) vs (suc d) c =
     elim (found k vs d c) [
-      is-in w e h ↦ is-in w e h
-    | is-near e h ↦ is-near e (omega arith)
-    | is-beyond e h ↦ is-beyond e (omega arith)
+      | is-in w e h ↦ is-in w e h
+      | is-near e h ↦ is-near e (omega arith)
+      | is-beyond e h ↦ is-beyond e (omega arith)
     ]
 
 -- Closed

@@ -8,7 +8,6 @@ use Rattle.calculus.specs.Term.{Term, number, truth, variable, function, appli
 use Rattle.calculus.specs.Stages.{in-range}
 
 infix 3 _⟶_
-
 -- One reduction. A rule that works on a left child asks for a value on the right.
 pub data _⟶_ : Term → Term → Type 0 where
   --   (fun x -> b) v ⟶ b[v/x]

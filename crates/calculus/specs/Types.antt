@@ -15,7 +15,6 @@ pub data Ty : Type 0 where
   unknown : ℕ → Ty
 
 infixr 5 _⇒_
-
 -- the type that stands in Γ for distance d
 abbrev pub at : List Ty → ℕ → Option Ty
 at [] d = none

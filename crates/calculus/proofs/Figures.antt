@@ -1,0 +1,66 @@
+-- The worked figures, by computation. Assumes nothing.
+use mathlib.Core.List.{List, [], _∷_}
+use mathlib.Core.Bool.{true}
+use mathlib.Core.Option.{some}
+use mathlib.Core.Path.{_≡_, refl, sym, _∙_, ap}
+use lib.IntN.{ℤ}
+use native.Mathlib.Omega.{arith}
+use Prim.Native.Nat.{ℕ, suc, _+_, _<_}
+use Rattle.syntax.specs.Tree.{Tree}
+use Rattle.calculus.specs.Types.{Ty, int, bool, _⇒_, unknown, Rule-has}
+use Rattle.calculus.specs.Stages.{start, stage}
+use Rattle.calculus.specs.Length.{Answer, over, answer}
+use Rattle.calculus.specs.Figures.{Gives, Figures, itself, no-function}
+use Rattle.calculus.proofs.Ending.{none-before, length-computed}
+
+pub gives : (readings : List ℤ) (t : Tree) (n : ℕ) (a : Answer) →
+    over (stage n (start readings t)) ≡ true → none-before n (start readings t) ≡ true → answer (stage n (start readings t)) ≡ some a → Gives readings t n a
+gives readings t n a e f g = record { length = length-computed n (start readings t) e f; answers = g }
+
+-- no type is its own side
+
+size : Ty → ℕ
+size int = 0
+size bool = 0
+size (p ⇒ s) = suc (size p + size s)
+size (unknown k) = 0
+
+size-⇒ : (p s : Ty) → size (p ⇒ s) ≡ suc (size p + size s)
+unfolding size
+size-⇒ p s = refl
+
+no-itself : (τ : Ty) → ¬ Rule-has 0 itself τ
+no-itself τ (p, s, e, (q, h, i)) =
+    let same : q ≡ q ⇒ s = cc in
+    omega (arith, ap size same ∙ size-⇒ q s)
+
+no-no-function : (τ : Ty) → ¬ Rule-has 0 no-function τ
+no-no-function τ (p, h, i) = let z : _≡_ {A = ℕ} 0 1 = cc in omega arith
+
+pub figures : Figures
+figures =
+    record {
+      heating-record = refl;
+      heating-on = gives _ _ _ _ refl refl refl;
+      heating-off = gives _ _ _ _ refl refl refl;
+      thrice-seven = gives _ _ _ _ refl refl refl;
+      identity-over = gives _ _ _ _ refl refl refl;
+      identity-type = (unknown 0, unknown 0, refl, refl);
+      itself-type = no-itself;
+      no-function-type = no-no-function;
+      sum-right-first = gives _ _ _ _ refl refl refl;
+      compare-right-first = gives _ _ _ _ refl refl refl;
+      argument-first = gives _ _ _ _ refl refl refl;
+      left-second = gives _ _ _ _ refl refl refl;
+      bound-first = gives _ _ _ _ refl refl refl;
+      condition-first = gives _ _ _ _ refl refl refl;
+      one-branch = gives _ _ _ _ refl refl refl;
+      not-inside = gives _ _ _ _ refl refl refl;
+      copy-keeps-number = gives _ _ _ _ refl refl refl;
+      least-in = gives _ _ _ _ refl refl refl;
+      below-least-out = gives _ _ _ _ refl refl refl;
+      greatest-in = gives _ _ _ _ refl refl refl;
+      above-greatest-out = gives _ _ _ _ refl refl refl;
+      equal-at-most = gives _ _ _ _ refl refl refl;
+      sign-at-most = gives _ _ _ _ refl refl refl;
+    }
