@@ -4,7 +4,6 @@ use mathlib.Core.Option.{Option, none, some}
 use mathlib.Core.Path.{_≡_}
 use lib.IntN.{ℤ}
 use Prim.Native.Nat.{ℕ, _<_}
-use Rattle.calculus.specs.Term as Term
 use Rattle.calculus.specs.Term.{Term}
 use Rattle.calculus.specs.Stages.{Next, rests, beyond, stuck, to, step, stage}
 

@@ -1,0 +1,5 @@
+pub mod Environments
+pub mod Work
+pub mod Room
+pub mod Laws
+pub mod Figures

@@ -1,0 +1,1 @@
+//! Room, reckoned on plain lists.
