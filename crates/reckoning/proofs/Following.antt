@@ -99,17 +99,17 @@ rests-done (done v) e = (v, refl)
 rests-done (unbound d) e = let z : _≡_ {A = ℕ} 0 1 = cc in absurd (omega arith)
 rests-done (application n f a) e =
     absurd (subst Never-rests e (child-first-never-rests (move a) (λ y. application n f y) (child-first (move f) (λ y. application n y a) (apply n (value-of f) (value-of a)))
-      (child-first-never-rests (move f) (λ y. application n y a) (apply n (value-of f) (value-of a)) (apply-never-rests n (value-of f) (value-of a)))))
+    (child-first-never-rests (move f) (λ y. application n y a) (apply n (value-of f) (value-of a)) (apply-never-rests n (value-of f) (value-of a)))))
 rests-done (let-in n x b env) e =
     absurd (subst Never-rests e (child-first-never-rests (move x) (λ y. let-in n y b env) (bind n (value-of x) b env) (bind-never-rests n (value-of x) b env)))
 rests-done (sum n l r) e =
     let last = add n (number-of (value-of l)) (number-of (value-of r)) in
     absurd (subst Never-rests e (child-first-never-rests (move r) (λ y. sum n l y) (child-first (move l) (λ y. sum n y r) last)
-      (child-first-never-rests (move l) (λ y. sum n y r) last (add-never-rests n (number-of (value-of l)) (number-of (value-of r))))))
+    (child-first-never-rests (move l) (λ y. sum n y r) last (add-never-rests n (number-of (value-of l)) (number-of (value-of r))))))
 rests-done (at-most n l r) e =
     let last = compare (number-of (value-of l)) (number-of (value-of r)) in
     absurd (subst Never-rests e (child-first-never-rests (move r) (λ y. at-most n l y) (child-first (move l) (λ y. at-most n y r) last)
-      (child-first-never-rests (move l) (λ y. at-most n y r) last (compare-never-rests (number-of (value-of l)) (number-of (value-of r))))))
+    (child-first-never-rests (move l) (λ y. at-most n y r) last (compare-never-rests (number-of (value-of l)) (number-of (value-of r))))))
 rests-done (if-else n c t x env) e =
     absurd (subst Never-rests e (child-first-never-rests (move c) (λ y. if-else n y t x env) (choose (value-of c) t x env) (choose-never-rests (value-of c) t x env)))
 
@@ -149,9 +149,9 @@ operands-next : (node : Work → Work → Work) (node-term : Term → Term → T
     Stages.right-left node-term (as-stage l) (as-stage r) (step (as-stage l)) (step (as-stage r)) onward-term ≡ as-next (operands node l r (move l) (move r) onward)
 operands-next node node-term l r onward onward-term same last e f =
     child-first-next r (move r) (λ y. node l y) (λ y. node-term (as-stage l) y) (child-first (move l) (λ y. node y r) onward)
-      (Stages.first (step (as-stage l)) (λ y. node-term y (as-stage r)) onward-term)
-      refl f (λ w. same l w)
-      (λ w p. child-first-next l (move l) (λ y. node y r) (λ y. node-term y (as-stage r)) onward onward-term refl e (λ u. same u r) (λ v q. last v w q p))
+    (Stages.first (step (as-stage l)) (λ y. node-term y (as-stage r)) onward-term)
+    refl f (λ w. same l w)
+    (λ w p. child-first-next l (move l) (λ y. node y r) (λ y. node-term y (as-stage r)) onward onward-term refl e (λ u. same u r) (λ v q. last v w q p))
 
 -- the reductions, on values
 
@@ -162,8 +162,8 @@ apply-next : (n : ℕ) (f a : Work) (v w : Value) → Scoped-work f → f ≡ do
     Stages.apply (Stages.body-of (as-stage f)) (as-stage a) ≡ as-next (apply n (value-of f) (value-of a))
 apply-next n f a v w s p q =
     subst (λ x. Stages.apply (Stages.body-of (as-stage x)) (as-stage a) ≡ as-next (apply n (value-of x) (value-of a))) (sym p)
-      (subst (λ y. Stages.apply (Stages.body-of (value-term v)) (as-stage y) ≡ as-next (apply n (some v) (value-of y))) (sym q)
-        (by-value v (subst Scoped-work p s)))
+    (subst (λ y. Stages.apply (Stages.body-of (value-term v)) (as-stage y) ≡ as-next (apply n (some v) (value-of y))) (sym q)
+    (by-value v (subst Scoped-work p s)))
   where
     by-value : (v : Value) → Scoped-value v → Stages.apply (Stages.body-of (value-term v)) (value-term w) ≡ as-next (apply n (some v) (some w))
     by-value (number k) h = refl
@@ -213,30 +213,30 @@ follows (done v) s = value-rests v
 follows (unbound d) s = refl
 follows (application n f a) s =
     operands-next (application n) (Term.application n) f a (apply n (value-of f) (value-of a)) (Stages.apply (Stages.body-of (as-stage f)) (as-stage a)) (λ x y. refl)
-      (λ v w p q. apply-next n f a v w (s .0) p q)
-      (follows f (s .0))
-      (follows a (s .1))
+    (λ v w p q. apply-next n f a v w (s .0) p q)
+    (follows f (s .0))
+    (follows a (s .1))
 follows (let-in n e b env) s =
     child-first-next e (move e) (λ y. let-in n y b env) (λ y. Term.let-in n y (put 1 (env-terms env) b)) (bind n (value-of e) b env)
-      (Next.to (put-one (as-stage e) (put 1 (env-terms env) b)))
-      refl (follows e (s .0)) (λ w. refl)
-      (λ v p. bind-next n e b env v (s .1) p)
+    (Next.to (put-one (as-stage e) (put 1 (env-terms env) b)))
+    refl (follows e (s .0)) (λ w. refl)
+    (λ v p. bind-next n e b env v (s .1) p)
 follows (sum n l r) s =
     operands-next (sum n) (Term.sum n) l r (add n (number-of (value-of l)) (number-of (value-of r))) (Stages.add n (Stages.number-of (as-stage l)) (Stages.number-of (as-stage r))) (λ x y. refl)
-      (λ v w p q.
-        ap (λ x. Stages.add n x (Stages.number-of (as-stage r))) (work-number l v p) ∙ ap (λ x. Stages.add n (number-of (value-of l)) x) (work-number r w q) ∙
-          add-next n (number-of (value-of l)) (number-of (value-of r)))
-      (follows l (s .0))
-      (follows r (s .1))
+    (λ v w p q.
+    ap (λ x. Stages.add n x (Stages.number-of (as-stage r))) (work-number l v p) ∙ ap (λ x. Stages.add n (number-of (value-of l)) x) (work-number r w q) ∙
+    add-next n (number-of (value-of l)) (number-of (value-of r)))
+    (follows l (s .0))
+    (follows r (s .1))
 follows (at-most n l r) s =
     operands-next (at-most n) (Term.at-most n) l r (compare (number-of (value-of l)) (number-of (value-of r))) (Stages.compare (Stages.number-of (as-stage l)) (Stages.number-of (as-stage r))) (λ x y. refl)
-      (λ v w p q.
-        ap (λ x. Stages.compare x (Stages.number-of (as-stage r))) (work-number l v p) ∙ ap (λ x. Stages.compare (number-of (value-of l)) x) (work-number r w q) ∙
-          compare-next (number-of (value-of l)) (number-of (value-of r)))
-      (follows l (s .0))
-      (follows r (s .1))
+    (λ v w p q.
+    ap (λ x. Stages.compare x (Stages.number-of (as-stage r))) (work-number l v p) ∙ ap (λ x. Stages.compare (number-of (value-of l)) x) (work-number r w q) ∙
+    compare-next (number-of (value-of l)) (number-of (value-of r)))
+    (follows l (s .0))
+    (follows r (s .1))
 follows (if-else n c t e env) s =
     child-first-next c (move c) (λ y. if-else n y t e env) (λ y. Term.if-else n y (put 0 (env-terms env) t) (put 0 (env-terms env) e)) (choose (value-of c) t e env)
-      (Stages.choose (Stages.truth-of (as-stage c)) (put 0 (env-terms env) t) (put 0 (env-terms env) e))
-      refl (follows c (s .0)) (λ w. refl)
-      (λ v p. choose-next c t e env v p)
+    (Stages.choose (Stages.truth-of (as-stage c)) (put 0 (env-terms env) t) (put 0 (env-terms env) e))
+    refl (follows c (s .0)) (λ w. refl)
+    (λ v p. choose-next c t e env v p)

@@ -1,3 +1,4 @@
 pub mod Scoped
 pub mod Following
 pub mod Reckoning
+pub mod Figures

@@ -143,32 +143,32 @@ operands-scoped : (node : Work → Work → Work) (l r : Work) (ml mr onward : M
     Scoped-work l → Scoped-work r → Scoped-move onward → Scoped-move ml → Scoped-move mr → Scoped-move (operands node l r ml mr onward)
 operands-scoped node l r ml mr onward both sl sr last hl hr =
     child-first-scoped mr (λ y. node l y) (child-first ml (λ y. node y r) onward) (λ w s. both l w sl s)
-      (child-first-scoped ml (λ y. node y r) onward (λ w s. both w r s sr) last hl)
-      hr
+    (child-first-scoped ml (λ y. node y r) onward (λ w s. both w r s sr) last hl)
+    hr
 
 pub move-scoped : (w : Work) → Scoped-work w → Scoped-move (move w)
 move-scoped (done v) s = tt
 move-scoped (unbound d) s = tt
 move-scoped (application n f a) s =
     operands-scoped (application n) f a (move f) (move a) (apply n (value-of f) (value-of a)) (λ x y p q. (p, q)) (s .0) (s .1)
-      (apply-scoped n (value-of f) (value-of a) (value-of-scoped f (s .0)) (value-of-scoped a (s .1)))
-      (move-scoped f (s .0))
-      (move-scoped a (s .1))
+    (apply-scoped n (value-of f) (value-of a) (value-of-scoped f (s .0)) (value-of-scoped a (s .1)))
+    (move-scoped f (s .0))
+    (move-scoped a (s .1))
 move-scoped (let-in n e b env) s =
     child-first-scoped (move e) (λ y. let-in n y b env) (bind n (value-of e) b env) (λ w p. (p, s .1, s .2))
-      (bind-scoped n (value-of e) b env (value-of-scoped e (s .0)) (s .1) (s .2))
-      (move-scoped e (s .0))
+    (bind-scoped n (value-of e) b env (value-of-scoped e (s .0)) (s .1) (s .2))
+    (move-scoped e (s .0))
 move-scoped (sum n l r) s =
     operands-scoped (sum n) l r (move l) (move r) (add n (number-of (value-of l)) (number-of (value-of r))) (λ x y p q. (p, q)) (s .0) (s .1)
-      (add-scoped n (number-of (value-of l)) (number-of (value-of r)))
-      (move-scoped l (s .0))
-      (move-scoped r (s .1))
+    (add-scoped n (number-of (value-of l)) (number-of (value-of r)))
+    (move-scoped l (s .0))
+    (move-scoped r (s .1))
 move-scoped (at-most n l r) s =
     operands-scoped (at-most n) l r (move l) (move r) (compare (number-of (value-of l)) (number-of (value-of r))) (λ x y p q. (p, q)) (s .0) (s .1)
-      (compare-scoped (number-of (value-of l)) (number-of (value-of r)))
-      (move-scoped l (s .0))
-      (move-scoped r (s .1))
+    (compare-scoped (number-of (value-of l)) (number-of (value-of r)))
+    (move-scoped l (s .0))
+    (move-scoped r (s .1))
 move-scoped (if-else n c t e env) s =
     child-first-scoped (move c) (λ y. if-else n y t e env) (choose (value-of c) t e env) (λ w p. (p, s .1, s .2, s .3))
-      (choose-scoped (value-of c) t e env (s .1) (s .2) (s .3))
-      (move-scoped c (s .0))
+    (choose-scoped (value-of c) t e env (s .1) (s .2) (s .3))
+    (move-scoped c (s .0))

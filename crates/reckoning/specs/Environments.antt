@@ -8,7 +8,6 @@ use Rattle.calculus.specs.Term.{Term, put}
 use Rattle.calculus.specs.Length.{Answer}
 
 infixr 5 _before_
-
 -- A value is a number, a truth, or a function: its node and body, with the environment its node was met in.
 -- An environment is a list of values, the innermost variable's first.
 mutual
