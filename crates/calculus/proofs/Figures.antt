@@ -5,9 +5,10 @@ use mathlib.Core.Option.{some}
 use mathlib.Core.Path.{_≡_, refl, sym, _∙_, ap}
 use lib.IntN.{ℤ}
 use native.Mathlib.Omega.{arith}
-use Prim.Native.Nat.{ℕ, suc, _+_, _<_}
+use Prim.Native.Nat.{ℕ, zero, suc, _+_, _<_}
 use Rattle.syntax.specs.Tree.{Tree}
 use Rattle.calculus.specs.Types.{Ty, int, bool, _⇒_, unknown, Rule-has}
+use Rattle.calculus.specs.Conditions.{Assignment, Meets, Cannot-meet}
 use Rattle.calculus.specs.Stages.{start, stage}
 use Rattle.calculus.specs.Length.{Answer, over, answer}
 use Rattle.calculus.specs.Figures.{Gives, Figures, itself, no-function}
@@ -37,6 +38,35 @@ no-itself τ (p, s, e, (q, h, i)) =
 no-no-function : (τ : Ty) → ¬ Rule-has 0 no-function τ
 no-no-function τ (p, h, i) = let z : _≡_ {A = ℕ} 0 1 = cc in omega arith
 
+itself-refused : Cannot-meet 0 itself 3
+itself-refused a (m₀, (m₁, m₂, m₃)) =
+    let e₁ = m₁ (omega arith) in
+    let e₂ = m₂ (omega arith) in
+    let e₃ = m₃ (omega arith) in
+    let same : a .type-of 2 ≡ a .type-of 2 ⇒ a .type-of 1 = cc in
+    omega (arith, ap size same ∙ size-⇒ (a .type-of 2) (a .type-of 1))
+
+no-function-refused : Cannot-meet 0 no-function 1
+no-function-refused a (m₀, m₁, m₂) =
+    let e₀ = m₀ (omega arith) in
+    let e₁ = m₁ (omega arith) in
+    let z : _≡_ {A = ℕ} 0 1 = cc in
+    omega arith
+
+-- for fun x -> x x: x, the function child, is int → int, and the argument, not yet asked, is int
+itself-types : ℕ → Ty
+itself-types zero = (int ⇒ int) ⇒ int
+itself-types (suc zero) = int
+itself-types (suc (suc zero)) = int ⇒ int
+itself-types (suc (suc (suc n))) = int
+
+itself-met : (a : Assignment) × Meets 0 itself 2 a
+unfolding itself-types
+itself-met = (
+  record { type-of = itself-types; parameter-of = λ n. int ⇒ int },
+  ((λ h. refl), ((λ h. refl), (λ h. refl), (λ h. absurd (omega arith)))),
+)
+
 pub figures : Figures
 figures =
     record {
@@ -48,6 +78,9 @@ figures =
       identity-type = (unknown 0, unknown 0, refl, refl);
       itself-type = no-itself;
       no-function-type = no-no-function;
+      itself-met-to-2 = itself-met;
+      itself-refused-at-3 = itself-refused;
+      no-function-refused-at-1 = no-function-refused;
       sum-right-first = gives _ _ _ _ refl refl refl;
       compare-right-first = gives _ _ _ _ refl refl refl;
       argument-first = gives _ _ _ _ refl refl refl;

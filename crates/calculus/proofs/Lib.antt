@@ -1,5 +1,6 @@
 pub mod Substitution
 pub mod Typing
+pub mod Conditions
 pub mod Reduction
 pub mod Safety
 pub mod Ending

@@ -9,6 +9,7 @@ use Prim.Native.Nat.{ℕ}
 use Rattle.syntax.specs.Tree.{Tree, number, truth, variable, function, application, let-in, sum, at-most, if-else}
 use Rattle.syntax.specs.Record.{record-of}
 use Rattle.calculus.specs.Types.{Ty, int, bool, _⇒_, unknown, Rule-has}
+use Rattle.calculus.specs.Conditions.{Assignment, Meets, Cannot-meet}
 use Rattle.calculus.specs.Stages.{start, stage}
 use Rattle.calculus.specs.Length.{Answer, Length, answer}
 
@@ -71,6 +72,10 @@ pub record Figures : Type 0 where
   pub identity-type : Rule-has 0 identity (unknown 0 ⇒ unknown 0)
   pub itself-type : (τ : Ty) → ¬ Rule-has 0 itself τ
   pub no-function-type : (τ : Ty) → ¬ Rule-has 0 no-function τ
+  -- the node whose condition cannot be met with those before it
+  pub itself-met-to-2 : (a : Assignment) × Meets 0 itself 2 a
+  pub itself-refused-at-3 : Cannot-meet 0 itself 3
+  pub no-function-refused-at-1 : Cannot-meet 0 no-function 1
   -- the right child before the left one, told by the sum that leaves the range
   pub sum-right-first : Gives [] (sum (leaving 1) (leaving 2)) 0 (Answer.range 4)
   pub compare-right-first : Gives [] (at-most (leaving 1) (leaving 2)) 0 (Answer.range 4)

@@ -5,9 +5,10 @@ use mathlib.Core.Path.{_≡_}
 use lib.IntN.{ℤ}
 use lib.ListN.{length}
 use Prim.Native.Nat.{ℕ}
-use Rattle.syntax.specs.Tree.{Tree}
+use Rattle.syntax.specs.Tree.{Tree, nodes}
 use Rattle.calculus.specs.Term.{Term}
 use Rattle.calculus.specs.Types.{Ty, Has, Rule-has, Belongs}
+use Rattle.calculus.specs.Conditions.{Assignment, Meets, Cannot-meet}
 use Rattle.calculus.specs.Rules.{_⟶_}
 use Rattle.calculus.specs.Stages.{rests, stuck, to, step, start, stage}
 use Rattle.calculus.specs.Length.{Length}
@@ -39,3 +40,10 @@ Value-belongs =
 pub record Determined : Type 0 where
   pub by-the-rules : (t u : Term) → (t ⟶ u) ↔ (step t ≡ to u)
   pub one-way : (t u v : Term) → t ⟶ u → t ⟶ v → u ≡ v
+
+-- A rule has a type exactly when its nodes can be given types that meet all conditions, with this type at node 0.
+-- So a rule whose conditions cannot be met up to some node has none.
+pub record Typed-by-conditions : Type 0 where
+  pub both-ways :
+      (r : ℕ) (t : Tree) (τ : Ty) → Rule-has r t τ ↔ ((a : Assignment) × (a .type-of 0 ≡ τ) × Meets r t (nodes t) a)
+  pub none-without : (r : ℕ) (t : Tree) (k : ℕ) → Cannot-meet r t k → (τ : Ty) → ¬ Rule-has r t τ

@@ -1,5 +1,6 @@
 pub mod Term
 pub mod Types
+pub mod Conditions
 pub mod Rules
 pub mod Stages
 pub mod Length

@@ -6,7 +6,7 @@
 ghost use mathlib.Core.List.{[]};
 ghost use lib.IntN.{pos};
 ghost use Rattle.syntax.specs.Tree.{sum};
-ghost use Rattle.calculus.specs.Laws.{Never-stuck, Keeps-types, Has-length, Value-belongs, Determined};
+ghost use Rattle.calculus.specs.Laws.{Never-stuck, Keeps-types, Has-length, Value-belongs, Determined, Typed-by-conditions};
 ghost use Rattle.calculus.specs.Length.{Answer};
 ghost use Rattle.calculus.specs.Figures.{Figures, Gives, thrice, leaving};
 
@@ -41,6 +41,13 @@ pub fn value_belongs() -> bool
 /// Stages are determined.
 pub fn determined() -> bool
     ensures { λ _. ⌜ Determined ⌝ }
+{
+    true
+}
+
+/// A rule has a type exactly when its nodes can be given types that meet all conditions.
+pub fn typed_by_conditions() -> bool
+    ensures { λ _. ⌜ Typed-by-conditions ⌝ }
 {
     true
 }
