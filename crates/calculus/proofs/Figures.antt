@@ -9,9 +9,10 @@ use Prim.Native.Nat.{ℕ, zero, suc, _+_, _<_}
 use Rattle.syntax.specs.Tree.{Tree}
 use Rattle.calculus.specs.Types.{Ty, int, bool, _⇒_, unknown, Rule-has}
 use Rattle.calculus.specs.Conditions.{Assignment, Meets, Cannot-meet}
+use Rattle.calculus.specs.General.{Comes-from, Most-general}
 use Rattle.calculus.specs.Stages.{start, stage}
 use Rattle.calculus.specs.Length.{Answer, over, answer}
-use Rattle.calculus.specs.Figures.{Gives, Figures, itself, no-function}
+use Rattle.calculus.specs.Figures.{Gives, Figures, identity, itself, no-function}
 use Rattle.calculus.proofs.Ending.{none-before, length-computed}
 
 pub gives : (readings : List ℤ) (t : Tree) (n : ℕ) (a : Answer) →
@@ -37,6 +38,12 @@ no-itself τ (p, s, e, (q, h, i)) =
 
 no-no-function : (τ : Ty) → ¬ Rule-has 0 no-function τ
 no-no-function τ (p, h, i) = let z : _≡_ {A = ℕ} 0 1 = cc in omega arith
+
+identity-comes : (σ : Ty) → Rule-has 0 identity σ → Comes-from (unknown 0 ⇒ unknown 0) σ
+identity-comes σ (p, s, e, h) = ((λ k. p), (cc))
+
+identity-general : Most-general 0 identity (unknown 0 ⇒ unknown 0)
+identity-general = record { is-type = (unknown 0, unknown 0, refl, refl); every-type = identity-comes }
 
 itself-refused : Cannot-meet 0 itself 3
 itself-refused a (m₀, (m₁, m₂, m₃)) =
@@ -75,7 +82,9 @@ figures =
       heating-off = gives _ _ _ _ refl refl refl;
       thrice-seven = gives _ _ _ _ refl refl refl;
       identity-over = gives _ _ _ _ refl refl refl;
-      identity-type = (unknown 0, unknown 0, refl, refl);
+      identity-type = identity-general;
+      identity-spelled = refl;
+      first-appearance = refl;
       itself-type = no-itself;
       no-function-type = no-no-function;
       itself-met-to-2 = itself-met;

@@ -10,6 +10,7 @@ use Rattle.syntax.specs.Tree.{Tree, number, truth, variable, function, applicat
 use Rattle.syntax.specs.Record.{record-of}
 use Rattle.calculus.specs.Types.{Ty, int, bool, _⇒_, unknown, Rule-has}
 use Rattle.calculus.specs.Conditions.{Assignment, Meets, Cannot-meet}
+use Rattle.calculus.specs.General.{Most-general, spelling}
 use Rattle.calculus.specs.Stages.{start, stage}
 use Rattle.calculus.specs.Length.{Answer, Length, answer}
 
@@ -69,7 +70,9 @@ pub record Figures : Type 0 where
   pub thrice-seven : Gives [] thrice 5 (Answer.number (pos 21))
   pub identity-over : Gives [] identity 0 (Answer.function 0)
   -- types
-  pub identity-type : Rule-has 0 identity (unknown 0 ⇒ unknown 0)
+  pub identity-type : Most-general 0 identity (unknown 0 ⇒ unknown 0)
+  pub identity-spelled : spelling (unknown 0 ⇒ unknown 0) ≡ 2 ∷ 3 ∷ 3 ∷ []
+  pub first-appearance : spelling (unknown 5 ⇒ (unknown 2 ⇒ int) ⇒ unknown 5) ≡ 2 ∷ 3 ∷ 2 ∷ 2 ∷ 4 ∷ 0 ∷ 3 ∷ []
   pub itself-type : (τ : Ty) → ¬ Rule-has 0 itself τ
   pub no-function-type : (τ : Ty) → ¬ Rule-has 0 no-function τ
   -- the node whose condition cannot be met with those before it

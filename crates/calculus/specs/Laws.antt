@@ -9,6 +9,7 @@ use Rattle.syntax.specs.Tree.{Tree, nodes}
 use Rattle.calculus.specs.Term.{Term}
 use Rattle.calculus.specs.Types.{Ty, Has, Rule-has, Belongs}
 use Rattle.calculus.specs.Conditions.{Assignment, Meets, Cannot-meet}
+use Rattle.calculus.specs.General.{Comes-from, Most-general, spelling}
 use Rattle.calculus.specs.Rules.{_⟶_}
 use Rattle.calculus.specs.Stages.{rests, stuck, to, step, start, stage}
 use Rattle.calculus.specs.Length.{Length}
@@ -47,3 +48,13 @@ pub record Typed-by-conditions : Type 0 where
   pub both-ways :
       (r : ℕ) (t : Tree) (τ : Ty) → Rule-has r t τ ↔ ((a : Assignment) × (a .type-of 0 ≡ τ) × Meets r t (nodes t) a)
   pub none-without : (r : ℕ) (t : Tree) (k : ℕ) → Cannot-meet r t k → (τ : Ty) → ¬ Rule-has r t τ
+
+-- What comes from a type of a rule, by putting types for unknowns, is a type of it. And two rules with most general
+-- types spell these alike exactly when they have the same types.
+pub record Spelling-tells : Type 0 where
+  pub what-comes : (r : ℕ) (t : Tree) (τ σ : Ty) → Rule-has r t τ → Comes-from τ σ → Rule-has r t σ
+  pub spelled-alike :
+      (r q : ℕ) (t u : Tree) (μ ν : Ty) →
+      Most-general r t μ →
+      Most-general q u ν →
+      (spelling μ ≡ spelling ν) ↔ ((σ : Ty) → Rule-has r t σ ↔ Rule-has q u σ)

@@ -1,6 +1,7 @@
 pub mod Term
 pub mod Types
 pub mod Conditions
+pub mod General
 pub mod Rules
 pub mod Stages
 pub mod Length

@@ -6,7 +6,7 @@
 ghost use mathlib.Core.List.{[]};
 ghost use lib.IntN.{pos};
 ghost use Rattle.syntax.specs.Tree.{sum};
-ghost use Rattle.calculus.specs.Laws.{Never-stuck, Keeps-types, Has-length, Value-belongs, Determined, Typed-by-conditions};
+ghost use Rattle.calculus.specs.Laws.{Never-stuck, Keeps-types, Has-length, Value-belongs, Determined, Typed-by-conditions, Spelling-tells};
 ghost use Rattle.calculus.specs.Length.{Answer};
 ghost use Rattle.calculus.specs.Figures.{Figures, Gives, thrice, leaving};
 
@@ -48,6 +48,13 @@ pub fn determined() -> bool
 /// A rule has a type exactly when its nodes can be given types that meet all conditions.
 pub fn typed_by_conditions() -> bool
     ensures { λ _. ⌜ Typed-by-conditions ⌝ }
+{
+    true
+}
+
+/// Two rules with most general types spell these alike exactly when they have the same types.
+pub fn spelling_tells() -> bool
+    ensures { λ _. ⌜ Spelling-tells ⌝ }
 {
     true
 }
