@@ -2,3 +2,4 @@ pub mod Scoped
 pub mod Following
 pub mod Reckoning
 pub mod Figures
+pub mod Starred

@@ -3,3 +3,4 @@ pub mod Work
 pub mod Room
 pub mod Laws
 pub mod Figures
+pub mod Starred

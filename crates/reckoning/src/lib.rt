@@ -5,6 +5,7 @@
 //! is the lesser of the granted steps and the length, and tells what that stage tells. Hardly anything runs here:
 //! each function below stands for one law of `specs/Laws.antt`, or for a worked figure.
 ghost use Rattle.reckoning.specs.Laws.{Follows-stages, Within-whole, Stays};
+ghost use Rattle.reckoning.specs.Starred.{Starred};
 ghost use Rattle.reckoning.specs.Figures.{Room-figures, Needs, linked, flat};
 
 /// As long as room suffices, the reckoning is at the stages, step for step.
@@ -31,6 +32,13 @@ pub fn stays() -> bool
 /// The worked figures of room hold.
 pub fn room_figures_stand() -> bool
     ensures { λ _. ⌜ Room-figures ⌝ }
+{
+    true
+}
+
+/// The figures that every part of the language is held to, all together.
+pub fn starred_figures_stand() -> bool
+    ensures { λ _. ⌜ Starred ⌝ }
 {
     true
 }
