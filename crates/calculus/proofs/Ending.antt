@@ -10,9 +10,13 @@ use native.Mathlib.Decide.{ℕ-discrete}
 use native.Mathlib.Omega.{arith}
 use Prim.Native.Nat.{ℕ, zero, suc, _≤_, _<_, _+_}
 use Rattle.syntax.specs.Tree.{Tree}
-use Rattle.calculus.specs.Term.{Term, number, truth, variable, function, application, let-in, sum, at-most, if-else, numbered, find, or-else, put, put-one, Closed}
+use Rattle.calculus.specs.Term.{Term, number, truth, variable, function, application, let-in, sum, at-most, if-else, numbered}
+use Rattle.calculus.specs.Substitution.{find, or-else, put, put-one, Closed}
 use Rattle.calculus.specs.Types.{Ty, int, bool, _⇒_, unknown, at, Has, Rule-has}
-use Rattle.calculus.specs.Stages.{Next, rests, beyond, stuck, to, first, right-left, in-range, step, after, stage, start, apply, add, compare, choose, number-of, truth-of, body-of}
+use Rattle.calculus.specs.Step.{Next, rests, beyond, stuck, to, first, right-left, step, apply, add, compare, choose}
+use Rattle.calculus.specs.Range.{in-range}
+use Rattle.calculus.specs.Stages.{after, stage, start}
+use Rattle.calculus.specs.Values.{number-of, truth-of, body-of}
 use Rattle.calculus.specs.Length.{over, ends, Length}
 use Rattle.calculus.specs.Laws.{Has-length}
 use Rattle.calculus.proofs.Substitution.{All-closed, put-put, put-closes}

@@ -5,8 +5,12 @@ use mathlib.Core.Path.{_≡_, refl, sym, _∙_, ap, subst}
 use lib.IntN.{ℤ, _+ℤ_}
 use native.Mathlib.Omega.{arith}
 use Prim.Native.Nat.{ℕ}
-use Rattle.calculus.specs.Term.{Term, number, truth, variable, function, application, let-in, sum, at-most, if-else, is-value, put-one}
-use Rattle.calculus.specs.Stages.{Next, rests, beyond, stuck, to, first, right-left, in-range, step, apply, add, compare, choose, number-of, truth-of, body-of}
+use Rattle.calculus.specs.Term.{Term, number, truth, variable, function, application, let-in, sum, at-most, if-else}
+use Rattle.calculus.specs.Values.{is-value}
+use Rattle.calculus.specs.Substitution.{put-one}
+use Rattle.calculus.specs.Step.{Next, rests, beyond, stuck, to, first, right-left, step, apply, add, compare, choose}
+use Rattle.calculus.specs.Range.{in-range}
+use Rattle.calculus.specs.Values.{number-of, truth-of, body-of}
 use Rattle.calculus.specs.Rules.{_⟶_, apply-function, argument, applied, let-value, bound, sum-numbers, sum-right, sum-left, compare-numbers, compare-right, compare-left, if-true, if-false, condition}
 use Rattle.calculus.specs.Laws.{Determined}
 

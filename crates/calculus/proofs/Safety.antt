@@ -6,9 +6,13 @@ use mathlib.Core.Path.{_≡_, refl, sym, _∙_, ap, subst}
 use lib.IntN.{ℤ, _+ℤ_}
 use native.Mathlib.Omega.{arith}
 use Prim.Native.Nat.{ℕ, zero, suc}
-use Rattle.calculus.specs.Term.{Term, number, truth, variable, function, application, let-in, sum, at-most, if-else, put-one}
+use Rattle.calculus.specs.Term.{Term, number, truth, variable, function, application, let-in, sum, at-most, if-else}
+use Rattle.calculus.specs.Substitution.{put-one}
 use Rattle.calculus.specs.Types.{Ty, int, bool, _⇒_, unknown, Has, Belongs}
-use Rattle.calculus.specs.Stages.{Next, rests, beyond, stuck, to, first, in-range, step, after, stage, start, apply, add, compare, choose, number-of, truth-of, body-of}
+use Rattle.calculus.specs.Step.{Next, rests, beyond, stuck, to, first, step, apply, add, compare, choose}
+use Rattle.calculus.specs.Range.{in-range}
+use Rattle.calculus.specs.Stages.{after, stage, start}
+use Rattle.calculus.specs.Values.{number-of, truth-of, body-of}
 use Rattle.calculus.specs.Laws.{Never-stuck, Keeps-types, Value-belongs}
 use Rattle.calculus.proofs.Typing.{put-one-has, start-has}
 use Rattle.calculus.proofs.Reduction.{rule-step}

@@ -6,7 +6,8 @@ use mathlib.Core.Path.{_≡_, refl, sym, _∙_, ap, subst}
 use lib.ListN.{length}
 use native.Mathlib.Omega.{arith}
 use Prim.Native.Nat.{ℕ, zero, suc, _+_, _≤_, _<_}
-use Rattle.calculus.specs.Term.{Term, number, truth, variable, function, application, let-in, sum, at-most, if-else, find, or-else, put, put-one, Closed}
+use Rattle.calculus.specs.Term.{Term, number, truth, variable, function, application, let-in, sum, at-most, if-else}
+use Rattle.calculus.specs.Substitution.{find, or-else, put, put-one, Closed}
 
 -- every term of a list is closed
 abbrev pub All-closed : List Term → Type 0

@@ -7,7 +7,8 @@ use lib.ListN.{length, replicate}
 use native.Mathlib.Omega.{arith}
 use Prim.Native.Nat.{ℕ, zero, suc, _+_, _≤_, _<_}
 use Rattle.syntax.specs.Tree.{Tree}
-use Rattle.calculus.specs.Term.{Term, number, truth, variable, function, application, let-in, sum, at-most, if-else, numbered, find, or-else, put, put-one, Closed}
+use Rattle.calculus.specs.Term.{Term, number, truth, variable, function, application, let-in, sum, at-most, if-else, numbered}
+use Rattle.calculus.specs.Substitution.{find, or-else, put, put-one, Closed}
 use Rattle.calculus.specs.Types.{Ty, int, bool, _⇒_, unknown, at, Has, Rule-has}
 use Rattle.calculus.specs.Stages.{start}
 

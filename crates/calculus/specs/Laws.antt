@@ -11,7 +11,8 @@ use Rattle.calculus.specs.Types.{Ty, Has, Rule-has, Belongs}
 use Rattle.calculus.specs.Conditions.{Assignment, Meets, Cannot-meet}
 use Rattle.calculus.specs.General.{Comes-from, Most-general, spelling}
 use Rattle.calculus.specs.Rules.{_⟶_}
-use Rattle.calculus.specs.Stages.{rests, stuck, to, step, start, stage}
+use Rattle.calculus.specs.Step.{rests, stuck, to, step}
+use Rattle.calculus.specs.Stages.{start, stage}
 use Rattle.calculus.specs.Length.{Length}
 
 -- no stage of a typed rule is stuck, whatever is read

@@ -5,7 +5,8 @@ use mathlib.Core.Path.{_≡_}
 use lib.IntN.{ℤ}
 use Prim.Native.Nat.{ℕ, _<_}
 use Rattle.calculus.specs.Term.{Term}
-use Rattle.calculus.specs.Stages.{Next, rests, beyond, stuck, to, step, stage}
+use Rattle.calculus.specs.Step.{Next, rests, beyond, stuck, to, step}
+use Rattle.calculus.specs.Stages.{stage}
 
 -- over: a value, or a sum outside the number range is next
 abbrev pub ends : Next → Bool

@@ -1,8 +1,12 @@
 pub mod Term
+pub mod Values
+pub mod Substitution
 pub mod Types
 pub mod Conditions
 pub mod General
+pub mod Range
 pub mod Rules
+pub mod Step
 pub mod Stages
 pub mod Length
 pub mod Laws

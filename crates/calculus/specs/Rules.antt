@@ -4,8 +4,10 @@ use mathlib.Core.Path.{_≡_}
 use lib.IntN.{ℤ, _+ℤ_}
 use lib.Signed.{leZ}
 use Prim.Native.Nat.{ℕ}
-use Rattle.calculus.specs.Term.{Term, number, truth, variable, function, application, let-in, sum, at-most, if-else, is-value, put-one}
-use Rattle.calculus.specs.Stages.{in-range}
+use Rattle.calculus.specs.Term.{Term, number, truth, variable, function, application, let-in, sum, at-most, if-else}
+use Rattle.calculus.specs.Values.{is-value}
+use Rattle.calculus.specs.Substitution.{put-one}
+use Rattle.calculus.specs.Range.{in-range}
 
 infix 3 _⟶_
 -- One reduction. A rule that works on a left child asks for a value on the right.

@@ -7,6 +7,7 @@ use Prim.Native.Nat.{ℕ, zero, suc}
 use Rattle.syntax.specs.Tree.{Tree}
 use Rattle.calculus.specs.Term.{Term, number, truth, variable, function, application, let-in, sum, at-most, if-else, numbered}
 
+infixr 5 _⇒_
 --   τ ::= int | bool | τ → τ | unknown k
 pub data Ty : Type 0 where
   int : Ty
@@ -14,7 +15,6 @@ pub data Ty : Type 0 where
   _⇒_ : Ty → Ty → Ty
   unknown : ℕ → Ty
 
-infixr 5 _⇒_
 -- the type that stands in Γ for distance d
 abbrev pub at : List Ty → ℕ → Option Ty
 at [] d = none
@@ -24,13 +24,15 @@ at (p ∷ Γ) (suc d) = at Γ d
 -- A node's type, under the types Γ of the variables in force: for a function's variable its parameter type, for a
 -- let's the type of its bound child, for a reading int.
 --
---                              Γ(x) = τ         Γ, x : p ⊢ b : s          Γ ⊢ f : p → τ   Γ ⊢ a : p
---   Γ ⊢ k : int   Γ ⊢ true, false : bool   ----------   -----------------------   --------------------------
---                              Γ ⊢ x : τ        Γ ⊢ fun x -> b : p → s    Γ ⊢ f a : τ
---
---   Γ ⊢ e : p   Γ, x : p ⊢ b : τ    Γ ⊢ l : int   Γ ⊢ r : int    Γ ⊢ l : int   Γ ⊢ r : int    Γ ⊢ c : bool   Γ ⊢ t : τ   Γ ⊢ e : τ
---   ----------------------------    -------------------------    -------------------------    ------------------------------------
---   Γ ⊢ let x = e in b : τ          Γ ⊢ l + r : int              Γ ⊢ l <= r : bool            Γ ⊢ if c then t else e : τ
+--   Γ ⊢ k : int
+--   Γ ⊢ true, false : bool
+--   Γ ⊢ x : τ                      if  Γ(x) = τ
+--   Γ ⊢ fun x -> b : p → s         if  Γ, x : p ⊢ b : s
+--   Γ ⊢ f a : τ                    if  Γ ⊢ f : p → τ  and  Γ ⊢ a : p
+--   Γ ⊢ let x = e in b : τ         if  Γ ⊢ e : p  and  Γ, x : p ⊢ b : τ
+--   Γ ⊢ l + r : int                if  Γ ⊢ l : int  and  Γ ⊢ r : int
+--   Γ ⊢ l <= r : bool              if  Γ ⊢ l : int  and  Γ ⊢ r : int
+--   Γ ⊢ if c then t else e : τ     if  Γ ⊢ c : bool  and  Γ ⊢ t : τ  and  Γ ⊢ e : τ
 abbrev pub Has : List Ty → Term → Ty → Type 0
 Has Γ (number k) τ = τ ≡ int
 Has Γ (truth b) τ = τ ≡ bool

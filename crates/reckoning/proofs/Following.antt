@@ -7,12 +7,16 @@ use lib.IntN.{ℤ, _+ℤ_}
 use lib.Signed.{leZ}
 use native.Mathlib.Omega.{arith}
 use Prim.Native.Nat.{ℕ, zero, suc}
-use Rattle.calculus.specs.Term.{Term, find, or-else, put, put-one}
-use Rattle.calculus.specs.Stages.{Next, step, in-range}
-use Rattle.calculus.specs.Stages as Stages
+use Rattle.calculus.specs.Term.{Term}
+use Rattle.calculus.specs.Substitution.{find, or-else, put, put-one}
+use Rattle.calculus.specs.Step.{Next, step}
+use Rattle.calculus.specs.Range.{in-range}
+use Rattle.calculus.specs.Step as Step
+use Rattle.calculus.specs.Values as Values
 use Rattle.calculus.proofs.Substitution.{put-put}
 use Rattle.reckoning.specs.Environments.{Value, Env, number, truth, function, empty, _before_, size, look, base, value-term, env-terms}
-use Rattle.reckoning.specs.Work.{Work, done, unbound, application, let-in, sum, at-most, if-else, found, met, as-stage, Move, rests, beyond, stuck, plain, makes, child-first, operands, value-of, number-of, apply, bind, add, compare, choose, move}
+use Rattle.reckoning.specs.Work.{Work, done, unbound, application, let-in, sum, at-most, if-else, found, met, as-stage}
+use Rattle.reckoning.specs.Moves.{Move, rests, beyond, stuck, plain, makes, child-first, operands, value-of, number-of, apply, bind, add, compare, choose, move}
 use Rattle.reckoning.proofs.Scoped.{Scoped, Scoped-value, Scoped-work, env-closed}
 
 -- a term met in an environment is the term with the environment's values put in
@@ -132,24 +136,24 @@ child-first-next : (child : Work) (m : Move) (around : Work → Work) (around-te
     move child ≡ m → step (as-stage child) ≡ as-next m →
     ((w : Work) → around-term (as-stage w) ≡ as-stage (around w)) →
     ((v : Value) → child ≡ done v → onward-term ≡ as-next onward) →
-    Stages.first (step (as-stage child)) around-term onward-term ≡ as-next (child-first m around onward)
+    Step.first (step (as-stage child)) around-term onward-term ≡ as-next (child-first m around onward)
 child-first-next child rests around around-term onward onward-term e f inner last =
-    ap (λ x. Stages.first x around-term onward-term) f ∙ last (rests-done child e .0) (rests-done child e .1)
-child-first-next child (beyond n) around around-term onward onward-term e f inner last = ap (λ x. Stages.first x around-term onward-term) f
-child-first-next child stuck around around-term onward onward-term e f inner last = ap (λ x. Stages.first x around-term onward-term) f
+    ap (λ x. Step.first x around-term onward-term) f ∙ last (rests-done child e .0) (rests-done child e .1)
+child-first-next child (beyond n) around around-term onward onward-term e f inner last = ap (λ x. Step.first x around-term onward-term) f
+child-first-next child stuck around around-term onward onward-term e f inner last = ap (λ x. Step.first x around-term onward-term) f
 child-first-next child (plain w) around around-term onward onward-term e f inner last =
-    ap (λ x. Stages.first x around-term onward-term) f ∙ ap Next.to (inner w)
+    ap (λ x. Step.first x around-term onward-term) f ∙ ap Next.to (inner w)
 child-first-next child (makes n env w) around around-term onward onward-term e f inner last =
-    ap (λ x. Stages.first x around-term onward-term) f ∙ ap Next.to (inner w)
+    ap (λ x. Step.first x around-term onward-term) f ∙ ap Next.to (inner w)
 
 operands-next : (node : Work → Work → Work) (node-term : Term → Term → Term) (l r : Work) (onward : Move) (onward-term : Next) →
     ((a b : Work) → node-term (as-stage a) (as-stage b) ≡ as-stage (node a b)) →
     ((v w : Value) → l ≡ done v → r ≡ done w → onward-term ≡ as-next onward) →
     step (as-stage l) ≡ as-next (move l) → step (as-stage r) ≡ as-next (move r) →
-    Stages.right-left node-term (as-stage l) (as-stage r) (step (as-stage l)) (step (as-stage r)) onward-term ≡ as-next (operands node l r (move l) (move r) onward)
+    Step.right-left node-term (as-stage l) (as-stage r) (step (as-stage l)) (step (as-stage r)) onward-term ≡ as-next (operands node l r (move l) (move r) onward)
 operands-next node node-term l r onward onward-term same last e f =
     child-first-next r (move r) (λ y. node l y) (λ y. node-term (as-stage l) y) (child-first (move l) (λ y. node y r) onward)
-    (Stages.first (step (as-stage l)) (λ y. node-term y (as-stage r)) onward-term)
+    (Step.first (step (as-stage l)) (λ y. node-term y (as-stage r)) onward-term)
     refl f (λ w. same l w)
     (λ w p. child-first-next l (move l) (λ y. node y r) (λ y. node-term y (as-stage r)) onward onward-term refl e (λ u. same u r) (λ v q. last v w q p))
 
@@ -159,13 +163,13 @@ put-met : (v : Value) (env : Env) (b : Term) → Scoped env → put-one (value-t
 put-met v env b s = put-put zero (value-term v) (env-terms env) b (env-closed env s) ∙ sym (met-stage b (v before env))
 
 apply-next : (n : ℕ) (f a : Work) (v w : Value) → Scoped-work f → f ≡ done v → a ≡ done w →
-    Stages.apply (Stages.body-of (as-stage f)) (as-stage a) ≡ as-next (apply n (value-of f) (value-of a))
+    Step.apply (Values.body-of (as-stage f)) (as-stage a) ≡ as-next (apply n (value-of f) (value-of a))
 apply-next n f a v w s p q =
-    subst (λ x. Stages.apply (Stages.body-of (as-stage x)) (as-stage a) ≡ as-next (apply n (value-of x) (value-of a))) (sym p)
-    (subst (λ y. Stages.apply (Stages.body-of (value-term v)) (as-stage y) ≡ as-next (apply n (some v) (value-of y))) (sym q)
+    subst (λ x. Step.apply (Values.body-of (as-stage x)) (as-stage a) ≡ as-next (apply n (value-of x) (value-of a))) (sym p)
+    (subst (λ y. Step.apply (Values.body-of (value-term v)) (as-stage y) ≡ as-next (apply n (some v) (value-of y))) (sym q)
     (by-value v (subst Scoped-work p s)))
   where
-    by-value : (v : Value) → Scoped-value v → Stages.apply (Stages.body-of (value-term v)) (value-term w) ≡ as-next (apply n (some v) (some w))
+    by-value : (v : Value) → Scoped-value v → Step.apply (Values.body-of (value-term v)) (value-term w) ≡ as-next (apply n (some v) (some w))
     by-value (number k) h = refl
     by-value (truth b) h = refl
     by-value (function m b env) h = ap Next.to (put-met w env b (h .0))
@@ -175,15 +179,15 @@ bind-next : (n : ℕ) (e : Work) (b : Term) (env : Env) (v : Value) → Scoped e
 bind-next n e b env v s p =
     subst (λ x. Next.to (put-one (as-stage x) (put 1 (env-terms env) b)) ≡ as-next (bind n (value-of x) b env)) (sym p) (ap Next.to (put-met v env b s))
 
-value-number : (v : Value) → Stages.number-of (value-term v) ≡ number-of (some v)
+value-number : (v : Value) → Values.number-of (value-term v) ≡ number-of (some v)
 value-number (number k) = refl
 value-number (truth b) = refl
 value-number (function n b env) = refl
 
-work-number : (w : Work) (v : Value) → w ≡ done v → Stages.number-of (as-stage w) ≡ number-of (value-of w)
-work-number w v p = subst (λ x. Stages.number-of (as-stage x) ≡ number-of (value-of x)) (sym p) (value-number v)
+work-number : (w : Work) (v : Value) → w ≡ done v → Values.number-of (as-stage w) ≡ number-of (value-of w)
+work-number w v p = subst (λ x. Values.number-of (as-stage x) ≡ number-of (value-of x)) (sym p) (value-number v)
 
-add-next : (n : ℕ) (x y : Option ℤ) → Stages.add n x y ≡ as-next (add n x y)
+add-next : (n : ℕ) (x y : Option ℤ) → Step.add n x y ≡ as-next (add n x y)
 add-next n none y = refl
 add-next n (some i) none = refl
 add-next n (some i) (some j) = either (in-range (i +ℤ j))
@@ -192,17 +196,17 @@ add-next n (some i) (some j) = either (in-range (i +ℤ j))
     either true = refl
     either false = refl
 
-compare-next : (x y : Option ℤ) → Stages.compare x y ≡ as-next (compare x y)
+compare-next : (x y : Option ℤ) → Step.compare x y ≡ as-next (compare x y)
 compare-next none y = refl
 compare-next (some i) none = refl
 compare-next (some i) (some j) = refl
 
 choose-next : (c : Work) (t e : Term) (env : Env) (v : Value) → c ≡ done v →
-    Stages.choose (Stages.truth-of (as-stage c)) (put 0 (env-terms env) t) (put 0 (env-terms env) e) ≡ as-next (choose (value-of c) t e env)
+    Step.choose (Values.truth-of (as-stage c)) (put 0 (env-terms env) t) (put 0 (env-terms env) e) ≡ as-next (choose (value-of c) t e env)
 choose-next c t e env v p =
-    subst (λ x. Stages.choose (Stages.truth-of (as-stage x)) (put 0 (env-terms env) t) (put 0 (env-terms env) e) ≡ as-next (choose (value-of x) t e env)) (sym p) (by-value v)
+    subst (λ x. Step.choose (Values.truth-of (as-stage x)) (put 0 (env-terms env) t) (put 0 (env-terms env) e) ≡ as-next (choose (value-of x) t e env)) (sym p) (by-value v)
   where
-    by-value : (v : Value) → Stages.choose (Stages.truth-of (value-term v)) (put 0 (env-terms env) t) (put 0 (env-terms env) e) ≡ as-next (choose (some v) t e env)
+    by-value : (v : Value) → Step.choose (Values.truth-of (value-term v)) (put 0 (env-terms env) t) (put 0 (env-terms env) e) ≡ as-next (choose (some v) t e env)
     by-value (number k) = refl
     by-value (truth true) = ap Next.to (sym (met-stage t env))
     by-value (truth false) = ap Next.to (sym (met-stage e env))
@@ -212,7 +216,7 @@ pub follows : (w : Work) → Scoped-work w → step (as-stage w) ≡ as-next (mo
 follows (done v) s = value-rests v
 follows (unbound d) s = refl
 follows (application n f a) s =
-    operands-next (application n) (Term.application n) f a (apply n (value-of f) (value-of a)) (Stages.apply (Stages.body-of (as-stage f)) (as-stage a)) (λ x y. refl)
+    operands-next (application n) (Term.application n) f a (apply n (value-of f) (value-of a)) (Step.apply (Values.body-of (as-stage f)) (as-stage a)) (λ x y. refl)
     (λ v w p q. apply-next n f a v w (s .0) p q)
     (follows f (s .0))
     (follows a (s .1))
@@ -222,21 +226,21 @@ follows (let-in n e b env) s =
     refl (follows e (s .0)) (λ w. refl)
     (λ v p. bind-next n e b env v (s .1) p)
 follows (sum n l r) s =
-    operands-next (sum n) (Term.sum n) l r (add n (number-of (value-of l)) (number-of (value-of r))) (Stages.add n (Stages.number-of (as-stage l)) (Stages.number-of (as-stage r))) (λ x y. refl)
+    operands-next (sum n) (Term.sum n) l r (add n (number-of (value-of l)) (number-of (value-of r))) (Step.add n (Values.number-of (as-stage l)) (Values.number-of (as-stage r))) (λ x y. refl)
     (λ v w p q.
-    ap (λ x. Stages.add n x (Stages.number-of (as-stage r))) (work-number l v p) ∙ ap (λ x. Stages.add n (number-of (value-of l)) x) (work-number r w q) ∙
+    ap (λ x. Step.add n x (Values.number-of (as-stage r))) (work-number l v p) ∙ ap (λ x. Step.add n (number-of (value-of l)) x) (work-number r w q) ∙
     add-next n (number-of (value-of l)) (number-of (value-of r)))
     (follows l (s .0))
     (follows r (s .1))
 follows (at-most n l r) s =
-    operands-next (at-most n) (Term.at-most n) l r (compare (number-of (value-of l)) (number-of (value-of r))) (Stages.compare (Stages.number-of (as-stage l)) (Stages.number-of (as-stage r))) (λ x y. refl)
+    operands-next (at-most n) (Term.at-most n) l r (compare (number-of (value-of l)) (number-of (value-of r))) (Step.compare (Values.number-of (as-stage l)) (Values.number-of (as-stage r))) (λ x y. refl)
     (λ v w p q.
-    ap (λ x. Stages.compare x (Stages.number-of (as-stage r))) (work-number l v p) ∙ ap (λ x. Stages.compare (number-of (value-of l)) x) (work-number r w q) ∙
+    ap (λ x. Step.compare x (Values.number-of (as-stage r))) (work-number l v p) ∙ ap (λ x. Step.compare (number-of (value-of l)) x) (work-number r w q) ∙
     compare-next (number-of (value-of l)) (number-of (value-of r)))
     (follows l (s .0))
     (follows r (s .1))
 follows (if-else n c t e env) s =
     child-first-next c (move c) (λ y. if-else n y t e env) (λ y. Term.if-else n y (put 0 (env-terms env) t) (put 0 (env-terms env) e)) (choose (value-of c) t e env)
-    (Stages.choose (Stages.truth-of (as-stage c)) (put 0 (env-terms env) t) (put 0 (env-terms env) e))
+    (Step.choose (Values.truth-of (as-stage c)) (put 0 (env-terms env) t) (put 0 (env-terms env) e))
     refl (follows c (s .0)) (λ w. refl)
     (λ v p. choose-next c t e env v p)

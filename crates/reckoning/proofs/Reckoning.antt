@@ -10,16 +10,21 @@ use native.Mathlib.Decide.{ℕ-discrete}
 use native.Mathlib.Omega.{arith}
 use Prim.Native.Nat.{ℕ, zero, suc, _+_, _-_, _≤_, _<_, min}
 use Rattle.syntax.specs.Tree.{Tree}
-use Rattle.calculus.specs.Term.{Term, numbered, put, Closed}
+use Rattle.calculus.specs.Term.{Term, numbered}
+use Rattle.calculus.specs.Substitution.{put, Closed}
 use Rattle.calculus.specs.Types.{Ty, int, Rule-has}
-use Rattle.calculus.specs.Stages.{Next, step, after, start, stage}
+use Rattle.calculus.specs.Step.{Next, step}
+use Rattle.calculus.specs.Stages.{after, start, stage}
 use Rattle.calculus.specs.Length.{Answer, Length, answer, ends, told, value-answer}
 use Rattle.calculus.specs.Length as Length
 use Rattle.calculus.proofs.Typing.{has-closed}
 use Rattle.calculus.proofs.Safety.{never-stuck}
 use Rattle.reckoning.specs.Environments.{Value, Env, number, truth, function, base, size, answer-of, value-term, env-terms}
-use Rattle.reckoning.specs.Work.{Work, done, met, as-stage, Move, rests, beyond, stuck, plain, makes, move}
-use Rattle.reckoning.specs.Room.{Room, Reckoned, State, waiting, over, no-store, no-stack, price, spent, free, one-too-many, result, ahead, shortage, state, goes-on, extends, reduces, if-waiting, granted, reckoned}
+use Rattle.reckoning.specs.Work.{Work, done, met, as-stage}
+use Rattle.reckoning.specs.Moves.{Move, rests, beyond, stuck, plain, makes, move}
+use Rattle.reckoning.specs.Room.{Room, price, spent, free}
+use Rattle.reckoning.specs.Reckoning.{Reckoned, State, waiting, over, no-store, no-stack, result, ahead, shortage, state, goes-on, extends, reduces, if-waiting, granted, reckoned}
+use Rattle.reckoning.specs.Open.{one-too-many}
 use Rattle.reckoning.specs.Laws.{stage-state, Suffices, At-stages, Follows-stages, Within-whole, Stays}
 use Rattle.reckoning.proofs.Scoped.{Scoped, Scoped-work, Scoped-move, met-scoped, base-scoped, size-base, move-scoped}
 use Rattle.reckoning.proofs.Following.{as-next, follows, met-stage, env-terms-base, rests-done}

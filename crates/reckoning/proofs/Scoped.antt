@@ -7,11 +7,13 @@ use lib.IntN.{ℤ, _+ℤ_}
 use lib.ListN.{length}
 use native.Mathlib.Omega.{arith}
 use Prim.Native.Nat.{ℕ, zero, suc, _+_, _≤_, _<_}
-use Rattle.calculus.specs.Term.{Term, put, Closed}
-use Rattle.calculus.specs.Stages.{in-range}
+use Rattle.calculus.specs.Term.{Term}
+use Rattle.calculus.specs.Substitution.{put, Closed}
+use Rattle.calculus.specs.Range.{in-range}
 use Rattle.calculus.proofs.Substitution.{All-closed, put-closes}
 use Rattle.reckoning.specs.Environments.{Value, Env, number, truth, function, empty, _before_, size, look, base, value-term, env-terms}
-use Rattle.reckoning.specs.Work.{Work, done, unbound, application, let-in, sum, at-most, if-else, found, met, Move, rests, beyond, stuck, plain, makes, child-first, operands, value-of, number-of, apply, bind, add, compare, choose, move}
+use Rattle.reckoning.specs.Work.{Work, done, unbound, application, let-in, sum, at-most, if-else, found, met}
+use Rattle.reckoning.specs.Moves.{Move, rests, beyond, stuck, plain, makes, child-first, operands, value-of, number-of, apply, bind, add, compare, choose, move}
 
 abbrev mutual
   pub Scoped-value : Value → Type 0

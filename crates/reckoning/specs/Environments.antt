@@ -4,7 +4,8 @@ use mathlib.Core.List.{List, [], _∷_}
 use mathlib.Core.Option.{Option, none, some}
 use lib.IntN.{ℤ}
 use Prim.Native.Nat.{ℕ, zero, suc}
-use Rattle.calculus.specs.Term.{Term, put}
+use Rattle.calculus.specs.Term.{Term}
+use Rattle.calculus.specs.Substitution.{put}
 use Rattle.calculus.specs.Length.{Answer}
 
 infixr 5 _before_

@@ -10,7 +10,8 @@ use Rattle.calculus.specs.Term.{Term}
 use Rattle.calculus.specs.Length.{Answer}
 use Rattle.calculus.specs.Figures.{thrice, heating, leaving}
 use Rattle.reckoning.specs.Environments.{Value, Env, empty, _before_}
-use Rattle.reckoning.specs.Room.{Room, State, waiting, over, no-store, no-stack, free, state, reckoned}
+use Rattle.reckoning.specs.Room.{Room, free}
+use Rattle.reckoning.specs.Reckoning.{State, waiting, over, no-store, no-stack, state, reckoned}
 
 -- a linked store over c cells, and a flat store over s slots
 abbrev pub linked : ℕ → Room

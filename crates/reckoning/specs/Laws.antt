@@ -11,7 +11,8 @@ use Rattle.calculus.specs.Types.{Ty, Rule-has}
 use Rattle.calculus.specs.Stages.{start, stage}
 use Rattle.calculus.specs.Length.{Answer, Length, answer}
 use Rattle.reckoning.specs.Work.{as-stage}
-use Rattle.reckoning.specs.Room.{Room, Reckoned, State, waiting, over, no-store, no-stack, spent, state, reckoned}
+use Rattle.reckoning.specs.Room.{Room, spent}
+use Rattle.reckoning.specs.Reckoning.{Reckoned, State, waiting, over, no-store, no-stack, state, reckoned}
 
 -- the state of a stage: waiting, or over with its answer
 abbrev pub stage-state : Option Answer → State

@@ -1,6 +1,9 @@
 pub mod Environments
 pub mod Work
+pub mod Moves
+pub mod Open
 pub mod Room
+pub mod Reckoning
 pub mod Laws
 pub mod Figures
 pub mod Starred

@@ -10,7 +10,7 @@ use Rattle.calculus.specs.Conditions.{Assignment, Meets, Cannot-meet}
 use Rattle.calculus.specs.General.{Most-general, spelling}
 use Rattle.calculus.specs.Length.{Answer}
 use Rattle.calculus.specs.Figures.{Gives, heating, thrice, identity, itself, no-function, leaving}
-use Rattle.reckoning.specs.Room.{no-store}
+use Rattle.reckoning.specs.Reckoning.{no-store}
 use Rattle.reckoning.specs.Figures.{linked, flat, Stands, Needs}
 
 pub record Starred : Type 0 where
