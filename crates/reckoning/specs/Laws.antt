@@ -1,16 +1,19 @@
 -- What is proved of the reckoning. Assumes nothing.
-use mathlib.Core.List.{List, []}
+use mathlib.Core.List.{List, [], _∷_}
 use mathlib.Core.Option.{Option, none, some}
 use mathlib.Core.Path.{_≡_}
 use lib.IntN.{ℤ}
 use lib.ListN.{length}
-use Prim.Native.Nat.{ℕ, suc, _≤_, min}
+use Prim.Native.Nat.{ℕ, suc, _≤_, _<_, min}
 use Rattle.syntax.specs.Tree.{Tree}
 use Rattle.calculus.specs.Term.{Term}
 use Rattle.calculus.specs.Types.{Ty, Rule-has}
 use Rattle.calculus.specs.Stages.{start, stage}
 use Rattle.calculus.specs.Length.{Answer, Length, answer}
-use Rattle.reckoning.specs.Work.{as-stage}
+use Rattle.reckoning.specs.Work.{Work, as-stage}
+use Rattle.reckoning.specs.Moves.{rests, move}
+use Rattle.reckoning.specs.Open.{open-nodes, nth}
+use Rattle.reckoning.specs.Contexts.{Open, plugged, nodes-before, within}
 use Rattle.reckoning.specs.Room.{Room, spent}
 use Rattle.reckoning.specs.Reckoning.{Reckoned, State, waiting, over, no-store, no-stack, state, reckoned}
 
@@ -54,3 +57,12 @@ Stays =
     (room : Room) (t : Tree) (readings : List ℤ) (g : ℕ) →
     ¬ (state (reckoned room readings t g) ≡ waiting) →
     reckoned room readings t (suc g) ≡ reckoned room readings t g
+
+-- A part that is not a value moves as the whole does, and the whole has the open operations around the part first. So
+-- with 256 operations around it, an operation is the 257th; and a reduction with at most 256, its own among them, has none.
+pub record Moves-inside : Type 0 where
+  pub same-move : (os : List Open) (w : Work) → ¬ (move w ≡ rests) → move (plugged os w) ≡ within (plugged os) (move w)
+  pub same-open :
+      (os : List Open) (w : Work) → ¬ (open-nodes w ≡ []) → open-nodes (plugged os w) ≡ nodes-before os (open-nodes w)
+  pub one-more : (os : List Open) (n : ℕ) (nodes : List ℕ) → length os ≡ 256 → nth 256 (nodes-before os (n ∷ nodes)) ≡ some n
+  pub no-more : (os : List Open) (n : ℕ) → length os < 256 → nth 256 (nodes-before os (n ∷ [])) ≡ none

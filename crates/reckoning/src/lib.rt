@@ -4,7 +4,7 @@
 //! count, free room and the environments made. As long as room suffices, a run is at the stage of its count, which
 //! is the lesser of the granted steps and the length, and tells what that stage tells. Hardly anything runs here:
 //! each function below stands for one law of `specs/Laws.antt`, or for a worked figure.
-ghost use Rattle.reckoning.specs.Laws.{Follows-stages, Within-whole, Stays};
+ghost use Rattle.reckoning.specs.Laws.{Follows-stages, Within-whole, Stays, Moves-inside};
 ghost use Rattle.reckoning.specs.Starred.{Starred};
 ghost use Rattle.reckoning.specs.Figures.{Room-figures, Needs, linked, flat};
 
@@ -25,6 +25,13 @@ pub fn within_whole() -> bool
 /// A run that waits no more changes no more.
 pub fn stays() -> bool
     ensures { λ _. ⌜ Stays ⌝ }
+{
+    true
+}
+
+/// What moves inside open operations moves as the whole does.
+pub fn moves_inside() -> bool
+    ensures { λ _. ⌜ Moves-inside ⌝ }
 {
     true
 }
