@@ -11,6 +11,7 @@ use Rattle.syntax.specs.Tree.{Tree, number, truth, variable, function, applicat
 use Rattle.calculus.specs.Term.{numbered}
 use Rattle.calculus.specs.Types.{Ty, int, bool, _⇒_, Has, Rule-has}
 use Rattle.calculus.specs.Conditions.{Assignment, Asks, Met, Meets, Cannot-meet}
+use Rattle.calculus.specs.General.{Comes-from, Most-general}
 use Rattle.calculus.specs.Laws.{Typed-by-conditions}
 
 -- a tree has a node
@@ -63,6 +64,67 @@ met-has a Γ k i (if-else c t e) h m =
       subst (λ τ. Has Γ (numbered (i + (1 + (nodes c + nodes t))) e) τ) (own .2)
           (met-has a Γ k (i + (1 + (nodes c + nodes t))) e (omega arith) (m .3)),
     )
+
+-- conditions node by node
+
+-- a tree that begins behind node k asks nothing yet
+pub met-not-yet : (a : Assignment) (Γ : List Ty) (k i : ℕ) (t : Tree) → k < i → Met a Γ k i t
+met-not-yet a Γ k i (number n) h = λ q. absurd (omega arith)
+met-not-yet a Γ k i (truth b) h = λ q. absurd (omega arith)
+met-not-yet a Γ k i (variable d) h = λ q. absurd (omega arith)
+met-not-yet a Γ k i (function b) h = ((λ q. absurd (omega arith)), met-not-yet a (a .parameter-of i ∷ Γ) k (i + 1) b (omega arith))
+met-not-yet a Γ k i (application f x) h =
+    ((λ q. absurd (omega arith)), met-not-yet a Γ k (i + 1) f (omega arith), met-not-yet a Γ k (i + (1 + nodes f)) x (omega arith))
+met-not-yet a Γ k i (let-in e b) h =
+    ((λ q. absurd (omega arith)), met-not-yet a Γ k (i + 1) e (omega arith), met-not-yet a (a .type-of (i + 1) ∷ Γ) k (i + (1 + nodes e)) b (omega arith))
+met-not-yet a Γ k i (sum l r) h =
+    ((λ q. absurd (omega arith)), met-not-yet a Γ k (i + 1) l (omega arith), met-not-yet a Γ k (i + (1 + nodes l)) r (omega arith))
+met-not-yet a Γ k i (at-most l r) h =
+    ((λ q. absurd (omega arith)), met-not-yet a Γ k (i + 1) l (omega arith), met-not-yet a Γ k (i + (1 + nodes l)) r (omega arith))
+met-not-yet a Γ k i (if-else c t e) h = (
+  (λ q. absurd (omega arith)),
+  met-not-yet a Γ k (i + 1) c (omega arith),
+  met-not-yet a Γ k (i + (1 + nodes c)) t (omega arith),
+  met-not-yet a Γ k (i + (1 + (nodes c + nodes t))) e (omega arith),
+)
+
+-- what is met up to node l is met up to each node k of the tree that is at most l; and beyond the tree nothing is asked
+pub met-up-to : (a : Assignment) (Γ : List Ty) (k l i : ℕ) (t : Tree) → ((n : ℕ) → n < i + nodes t → n ≤ k → n ≤ l) → Met a Γ l i t → Met a Γ k i t
+met-up-to a Γ k l i (number n) h m = λ q. m (h i (omega arith) q)
+met-up-to a Γ k l i (truth b) h m = λ q. m (h i (omega arith) q)
+met-up-to a Γ k l i (variable d) h m = λ q. m (h i (omega arith) q)
+met-up-to a Γ k l i (function b) h m =
+    ((λ q. m .0 (h i (omega arith) q)), met-up-to a (a .parameter-of i ∷ Γ) k l (i + 1) b (λ n p q. h n (omega arith) q) (m .1))
+met-up-to a Γ k l i (application f x) h m = (
+  (λ q. m .0 (h i (omega arith) q)),
+  met-up-to a Γ k l (i + 1) f (λ n p q. h n (omega arith) q) (m .1),
+  met-up-to a Γ k l (i + (1 + nodes f)) x (λ n p q. h n (omega arith) q) (m .2),
+)
+met-up-to a Γ k l i (let-in e b) h m = (
+  (λ q. m .0 (h i (omega arith) q)),
+  met-up-to a Γ k l (i + 1) e (λ n p q. h n (omega arith) q) (m .1),
+  met-up-to a (a .type-of (i + 1) ∷ Γ) k l (i + (1 + nodes e)) b (λ n p q. h n (omega arith) q) (m .2),
+)
+met-up-to a Γ k l i (sum x y) h m = (
+  (λ q. m .0 (h i (omega arith) q)),
+  met-up-to a Γ k l (i + 1) x (λ n p q. h n (omega arith) q) (m .1),
+  met-up-to a Γ k l (i + (1 + nodes x)) y (λ n p q. h n (omega arith) q) (m .2),
+)
+met-up-to a Γ k l i (at-most x y) h m = (
+  (λ q. m .0 (h i (omega arith) q)),
+  met-up-to a Γ k l (i + 1) x (λ n p q. h n (omega arith) q) (m .1),
+  met-up-to a Γ k l (i + (1 + nodes x)) y (λ n p q. h n (omega arith) q) (m .2),
+)
+met-up-to a Γ k l i (if-else c t e) h m = (
+  (λ q. m .0 (h i (omega arith) q)),
+  met-up-to a Γ k l (i + 1) c (λ n p q. h n (omega arith) q) (m .1),
+  met-up-to a Γ k l (i + (1 + nodes c)) t (λ n p q. h n (omega arith) q) (m .2),
+  met-up-to a Γ k l (i + (1 + (nodes c + nodes t))) e (λ n p q. h n (omega arith) q) (m .3),
+)
+
+-- what cannot be met up to node k cannot be met further
+pub cannot-meet-further : (r : ℕ) (t : Tree) (k l : ℕ) → k ≤ l → Cannot-meet r t k → Cannot-meet r t l
+cannot-meet-further r t k l h c a m = c a (met-up-to a (replicate r int) k l 0 t (λ n p q. omega arith) m)
 
 -- conditions see only the nodes of their tree
 
@@ -341,4 +403,18 @@ typed-by-conditions =
     record {
       both-ways = λ r t τ. (type-conditions r t τ (nodes t), conditions-type r t τ);
       none-without = λ r t k c τ h. c (type-conditions r t τ k h .0) (type-conditions r t τ k h .2);
+    }
+
+-- an assignment that meets all conditions, and from which each other such comes, has a most general type at node 0
+pub general-by-conditions :
+    (r : ℕ) (t : Tree) (a : Assignment) →
+    Meets r t (nodes t) a →
+    ((b : Assignment) → Meets r t (nodes t) b → Comes-from (a .type-of 0) (b .type-of 0)) →
+    Most-general r t (a .type-of 0)
+general-by-conditions r t a m every =
+    record {
+      is-type = conditions-type r t (a .type-of 0) (a, refl, m);
+      every-type = λ σ h.
+          let c = type-conditions r t σ (nodes t) h in
+          subst (λ x. Comes-from (a .type-of 0) x) (c .1) (every (c .0) (c .2));
     }

@@ -1,4 +1,5 @@
 -- What is proved of every rule. Assumes nothing.
+use mathlib.Core.Bool.{true}
 use mathlib.Core.List.{List, []}
 use mathlib.Core.Logic.{_↔_}
 use mathlib.Core.Path.{_≡_}
@@ -7,11 +8,12 @@ use lib.ListN.{length}
 use Prim.Native.Nat.{ℕ}
 use Rattle.syntax.specs.Tree.{Tree, nodes}
 use Rattle.calculus.specs.Term.{Term}
+use Rattle.calculus.specs.Values.{is-value}
 use Rattle.calculus.specs.Types.{Ty, Has, Rule-has, Belongs}
 use Rattle.calculus.specs.Conditions.{Assignment, Meets, Cannot-meet}
 use Rattle.calculus.specs.General.{Comes-from, Most-general, spelling}
-use Rattle.calculus.specs.Rules.{_⟶_}
-use Rattle.calculus.specs.Step.{rests, stuck, to, step}
+use Rattle.calculus.specs.Rules.{_⟶_, Leaves}
+use Rattle.calculus.specs.Step.{rests, beyond, stuck, to, step}
 use Rattle.calculus.specs.Stages.{start, stage}
 use Rattle.calculus.specs.Length.{Length}
 
@@ -38,9 +40,11 @@ Value-belongs =
     step (stage n (start readings t)) ≡ rests →
     Belongs (stage n (start readings t)) τ
 
--- stages are determined: a step is what the rules say, and they never say two things
+-- stages are determined: what comes next is what the rules say, and they never say two things
 pub record Determined : Type 0 where
-  pub by-the-rules : (t u : Term) → (t ⟶ u) ↔ (step t ≡ to u)
+  pub reduces : (t u : Term) → (t ⟶ u) ↔ (step t ≡ to u)
+  pub leaves : (t : Term) (n : ℕ) → Leaves t n ↔ (step t ≡ beyond n)
+  pub at-rest : (t : Term) → (is-value t ≡ true) ↔ (step t ≡ rests)
   pub one-way : (t u v : Term) → t ⟶ u → t ⟶ v → u ≡ v
 
 -- A rule has a type exactly when its nodes can be given types that meet all conditions, with this type at node 0.

@@ -39,3 +39,19 @@ pub data _⟶_ : Term → Term → Type 0 where
   if-false : {n : ℕ} {t e : Term} → if-else n (truth false) t e ⟶ e
   --   c ⟶ c′  gives  if c then t else e ⟶ if c′ then t else e
   condition : {n : ℕ} {c c′ t e : Term} → c ⟶ c′ → if-else n c t e ⟶ if-else n c′ t e
+
+-- The sum at node n is next, and it leaves the number range: found by the same order as the next reduction.
+pub data Leaves : Term → ℕ → Type 0 where
+  --   i + j  with i + j out of range
+  sum-out : {n : ℕ} {i j : ℤ} → in-range (i +ℤ j) ≡ false → Leaves (sum n (number i) (number j)) n
+  --   in a of f a, in f of f v, in e of let x = e in b
+  in-argument : {n m : ℕ} {f a : Term} → Leaves a m → Leaves (application n f a) m
+  in-applied : {n m : ℕ} {f v : Term} → is-value v ≡ true → Leaves f m → Leaves (application n f v) m
+  in-bound : {n m : ℕ} {e b : Term} → Leaves e m → Leaves (let-in n e b) m
+  --   in r of l + r, in l of l + v, in r of l <= r, in l of l <= v
+  in-sum-right : {n m : ℕ} {l r : Term} → Leaves r m → Leaves (sum n l r) m
+  in-sum-left : {n m : ℕ} {l v : Term} → is-value v ≡ true → Leaves l m → Leaves (sum n l v) m
+  in-compare-right : {n m : ℕ} {l r : Term} → Leaves r m → Leaves (at-most n l r) m
+  in-compare-left : {n m : ℕ} {l v : Term} → is-value v ≡ true → Leaves l m → Leaves (at-most n l v) m
+  --   in c of if c then t else e
+  in-condition : {n m : ℕ} {c t e : Term} → Leaves c m → Leaves (if-else n c t e) m

@@ -216,6 +216,7 @@ follows-stages room t τ readings h g =
       at-stage = k .at-stage;
       counts = λ i n l. kept-counts (start readings t) g s n (state s) k l refl i;
       tells = kept-tells (start readings t) g s k;
+      not-stuck = λ e. never-stuck t τ readings h (s .count) (next-step (start readings t) g s stuck k e);
       never-past = (k .count-≤, λ n l. count-≤-length (start readings t) g s n k l);
     }
 

@@ -11,7 +11,7 @@ use Rattle.calculus.specs.Types.{Ty, Rule-has}
 use Rattle.calculus.specs.Stages.{start, stage}
 use Rattle.calculus.specs.Length.{Answer, Length, answer}
 use Rattle.reckoning.specs.Work.{Work, as-stage}
-use Rattle.reckoning.specs.Moves.{rests, move}
+use Rattle.reckoning.specs.Moves.{rests, stuck, move}
 use Rattle.reckoning.specs.Open.{open-nodes, nth}
 use Rattle.reckoning.specs.Contexts.{Open, plugged, nodes-before, within}
 use Rattle.reckoning.specs.Room.{Room, spent}
@@ -35,6 +35,8 @@ pub record At-stages (t : Term) (g : ℕ) (s : Reckoned) : Type 0 where
   pub at-stage : as-stage (s .work) ≡ stage (s .count) t
   pub counts : Suffices (state s) → (n : ℕ) → Length t n → s .count ≡ min g n
   pub tells : Suffices (state s) → state s ≡ stage-state (answer (stage (s .count) t))
+  -- a move is always there, or a value, or a sum that leaves the range: no variable without a value, no wrong kind of value
+  pub not-stuck : ¬ (move (s .work) ≡ stuck)
   -- short of room, it stands at a stage that was granted and not passed by
   pub never-past : (s .count ≤ g) × ((n : ℕ) → Length t n → s .count ≤ n)
 
