@@ -49,7 +49,7 @@ rule-has-put-types r t τ θ h =
 what-comes : (r : ℕ) (t : Tree) (τ σ : Ty) → Rule-has r t τ → Comes-from τ σ → Rule-has r t σ
 what-comes r t τ σ h (θ, e) = subst (λ x. Rule-has r t x) e (rule-has-put-types r t τ θ h)
 
-put-types-twice : (θ φ : ℕ → Ty) (τ : Ty) → put-types φ (put-types θ τ) ≡ put-types (λ k. put-types φ (θ k)) τ
+pub put-types-twice : (θ φ : ℕ → Ty) (τ : Ty) → put-types φ (put-types θ τ) ≡ put-types (λ k. put-types φ (θ k)) τ
 put-types-twice θ φ int = refl
 put-types-twice θ φ bool = refl
 put-types-twice θ φ (p ⇒ s) = let e = put-types-twice θ φ p in let f = put-types-twice θ φ s in cc

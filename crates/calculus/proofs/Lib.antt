@@ -2,6 +2,7 @@ pub mod Substitution
 pub mod Typing
 pub mod Conditions
 pub mod General
+pub mod Unification
 pub mod Reduction
 pub mod Safety
 pub mod Ending
