@@ -128,9 +128,9 @@ cannot-meet-further r t k l h c a m = c a (met-up-to a (replicate r int) k l 0 t
 
 -- conditions see only the nodes of their tree
 
-record Agree (a b : Assignment) (i j : ℕ) : Type 0 where
-  types : (n : ℕ) → i ≤ n → n < j → a .type-of n ≡ b .type-of n
-  parameters : (n : ℕ) → i ≤ n → n < j → a .parameter-of n ≡ b .parameter-of n
+pub record Agree (a b : Assignment) (i j : ℕ) : Type 0 where
+  pub types : (n : ℕ) → i ≤ n → n < j → a .type-of n ≡ b .type-of n
+  pub parameters : (n : ℕ) → i ≤ n → n < j → a .parameter-of n ≡ b .parameter-of n
 
 narrower : (a b : Assignment) (i j k l : ℕ) → i ≤ k → l ≤ j → Agree a b i j → Agree a b k l
 narrower a b i j k l g h r =
@@ -139,7 +139,7 @@ narrower a b i j k l g h r =
       parameters = λ n p q. r .parameters n (omega arith) (omega arith);
     }
 
-met-agree : (a b : Assignment) (Γ : List Ty) (k i : ℕ) (t : Tree) → Agree a b i (i + nodes t) → Met a Γ k i t → Met b Γ k i t
+pub met-agree : (a b : Assignment) (Γ : List Ty) (k i : ℕ) (t : Tree) → Agree a b i (i + nodes t) → Met a Γ k i t → Met b Γ k i t
 met-agree a b Γ k i (number n) r m = λ h. let p = r .types i (omega arith) (omega arith) in let q = m h in cc
 met-agree a b Γ k i (truth x) r m = λ h. let p = r .types i (omega arith) (omega arith) in let q = m h in cc
 met-agree a b Γ k i (variable d) r m = λ h. let p = r .types i (omega arith) (omega arith) in let q = m h in cc
@@ -395,7 +395,7 @@ has-met Γ i (if-else x t e) τ (g, h, j) =
 conditions-type : (r : ℕ) (t : Tree) (τ : Ty) → ((a : Assignment) × (a .type-of 0 ≡ τ) × Meets r t (nodes t) a) → Rule-has r t τ
 conditions-type r t τ (a, e, m) = subst (λ x. Rule-has r t x) e (met-has a (replicate r int) (nodes t) 0 t (omega arith) m)
 
-type-conditions : (r : ℕ) (t : Tree) (τ : Ty) (k : ℕ) → Rule-has r t τ → (a : Assignment) × (a .type-of 0 ≡ τ) × Meets r t k a
+pub type-conditions : (r : ℕ) (t : Tree) (τ : Ty) (k : ℕ) → Rule-has r t τ → (a : Assignment) × (a .type-of 0 ≡ τ) × Meets r t k a
 type-conditions r t τ k h = let f = has-met (replicate r int) 0 t τ h in (f .assigned, f .at-root, f .met k)
 
 pub typed-by-conditions : Typed-by-conditions

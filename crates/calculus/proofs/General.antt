@@ -17,11 +17,11 @@ use Rattle.calculus.specs.Laws.{Spelling-tells}
 
 -- putting types for unknowns keeps a rule's types
 
-abbrev put-all : (ℕ → Ty) → List Ty → List Ty
+abbrev pub put-all : (ℕ → Ty) → List Ty → List Ty
 put-all θ [] = []
 put-all θ (p ∷ Γ) = put-types θ p ∷ put-all θ Γ
 
-at-put-all : (θ : ℕ → Ty) (Γ : List Ty) (d : ℕ) (τ : Ty) → at Γ d ≡ some τ → at (put-all θ Γ) d ≡ some (put-types θ τ)
+pub at-put-all : (θ : ℕ → Ty) (Γ : List Ty) (d : ℕ) (τ : Ty) → at Γ d ≡ some τ → at (put-all θ Γ) d ≡ some (put-types θ τ)
 at-put-all θ [] d τ e = let z : _≡_ {A = ℕ} 0 1 = cc in absurd (omega arith)
 at-put-all θ (p ∷ Γ) zero τ e = let q : p ≡ τ = cc in ap (λ x. some (put-types θ x)) q
 at-put-all θ (p ∷ Γ) (suc d) τ e = at-put-all θ Γ d τ e
@@ -38,7 +38,7 @@ has-put-types θ Γ (sum n l r) τ (e, h, i) = (ap (λ x. put-types θ x) e, has
 has-put-types θ Γ (at-most n l r) τ (e, h, i) = (ap (λ x. put-types θ x) e, has-put-types θ Γ l int h, has-put-types θ Γ r int i)
 has-put-types θ Γ (if-else n c t e) τ (h, i, j) = (has-put-types θ Γ c bool h, has-put-types θ Γ t τ i, has-put-types θ Γ e τ j)
 
-put-all-readings : (θ : ℕ → Ty) (r : ℕ) → put-all θ (replicate r int) ≡ replicate r int
+pub put-all-readings : (θ : ℕ → Ty) (r : ℕ) → put-all θ (replicate r int) ≡ replicate r int
 put-all-readings θ zero = refl
 put-all-readings θ (suc r) = ap (λ Γ. int ∷ Γ) (put-all-readings θ r)
 

@@ -3,6 +3,7 @@ pub mod Typing
 pub mod Conditions
 pub mod General
 pub mod Unification
+pub mod Principal
 pub mod Reduction
 pub mod Safety
 pub mod Ending

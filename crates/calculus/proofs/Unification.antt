@@ -20,7 +20,6 @@ abbrev pub _≐_ : Ty → Ty → Equation
 l ≐ r = record { left = l; right = r }
 
 infix 4 _≐_
-
 abbrev pub Solves : (ℕ → Ty) → List Equation → Type 0
 Solves θ [] = Unit {0}
 Solves θ (e ∷ es) = (put-types θ (e .left) ≡ put-types θ (e .right)) × Solves θ es
@@ -124,14 +123,14 @@ eliminated k r es absent s =
     let δ = single k r in
     record {
       solution = λ j. put-types σ (δ j);
-      solves =
-        ( ap (λ x. put-types σ x) (single-at k r) ∙ ap (λ x. put-types σ x) (sym absent) ∙ put-types-twice δ σ r
-        , solves-twice δ σ es (s .solves)
-        );
+      solves = (
+        ap (λ x. put-types σ x) (single-at k r) ∙ ap (λ x. put-types σ x) (sym absent) ∙ put-types-twice δ σ r,
+        solves-twice δ σ es (s .solves),
+      );
       every = λ θ h j.
-        put-types-twice σ θ (δ j) ∙
+          put-types-twice σ θ (δ j) ∙
           put-types-same (λ i. put-types θ (σ i)) θ (s .every θ (solves-single k r θ (h .0) es (h .1))) (δ j) ∙
-          single-solved k r θ (h .0) j
+          single-solved k r θ (h .0) j;
     }
 
 -- sizes
@@ -218,9 +217,9 @@ module _ (θ : ℕ → Ty) (fuel : ℕ) (inner : (es : List Equation) → Solves
   unfolding size weight
   arrows p s q u es e g h =
       same-solution ((p ≐ q) ∷ (s ≐ u) ∷ es) (((p ⇒ s) ≐ (q ⇒ u)) ∷ es)
-        (λ φ f. (let a = f .0 in let b = f .1 .0 in cc, f .1 .1))
-        (λ φ f. let a = f .0 in (cc, (cc, f .1)))
-        (inner ((p ≐ q) ∷ (s ≐ u) ∷ es) (cc, (cc, g)) (omega arith))
+      (λ φ f. (let a = f .0 in let b = f .1 .0 in cc, f .1 .1))
+      (λ φ f. let a = f .0 in (cc, (cc, f .1)))
+      (inner ((p ≐ q) ∷ (s ≐ u) ∷ es) (cc, (cc, g)) (omega arith))
 
   one-equation : (l r : Ty) (es : List Equation) → put-types θ l ≡ put-types θ r → Solves θ es → size (put-types θ l) + weight θ es < suc fuel → Solution ((l ≐ r) ∷ es)
   one-equation int int es e s h = same-solution es ((int ≐ int) ∷ es) (λ φ g. (refl, g)) (λ φ g. g .1) (inner es s (omega (arith, size-pos int)))

@@ -63,3 +63,7 @@ pub record Spelling-tells : Type 0 where
       Most-general r t μ →
       Most-general q u ν →
       (spelling μ ≡ spelling ν) ↔ ((σ : Ty) → Rule-has r t σ ↔ Rule-has q u σ)
+
+-- every rule that has a type has a most general one
+abbrev pub Has-general-type : Type 0
+Has-general-type = (r : ℕ) (t : Tree) (τ : Ty) → Rule-has r t τ → (μ : Ty) × Most-general r t μ

@@ -6,7 +6,7 @@
 ghost use mathlib.Core.List.{[]};
 ghost use lib.IntN.{pos};
 ghost use Rattle.syntax.specs.Tree.{sum};
-ghost use Rattle.calculus.specs.Laws.{Never-stuck, Keeps-types, Has-length, Value-belongs, Determined, Typed-by-conditions, Spelling-tells};
+ghost use Rattle.calculus.specs.Laws.{Never-stuck, Keeps-types, Has-length, Value-belongs, Determined, Typed-by-conditions, Spelling-tells, Has-general-type};
 ghost use Rattle.calculus.specs.Length.{Answer};
 ghost use Rattle.calculus.specs.Figures.{Figures, Gives, thrice, leaving};
 
@@ -55,6 +55,13 @@ pub fn typed_by_conditions() -> bool
 /// Two rules with most general types spell these alike exactly when they have the same types.
 pub fn spelling_tells() -> bool
     ensures { λ _. ⌜ Spelling-tells ⌝ }
+{
+    true
+}
+
+/// Every rule that has a type has a most general one.
+pub fn has_general_type() -> bool
+    ensures { λ _. ⌜ Has-general-type ⌝ }
 {
     true
 }
