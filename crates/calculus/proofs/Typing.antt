@@ -3,7 +3,7 @@ use mathlib.Core.List.{List, [], _∷_, _++_, map}
 use mathlib.Core.Option.{Option, none, some}
 use mathlib.Core.Path.{_≡_, refl, sym, _∙_, ap, subst}
 use lib.IntN.{ℤ}
-use lib.ListN.{length, replicate}
+use lib.ListN.{length, replicate, length-replicate}
 use native.Mathlib.Omega.{arith}
 use Prim.Native.Nat.{ℕ, zero, suc, _+_, _≤_, _<_}
 use Rattle.syntax.specs.Tree.{Tree}
@@ -11,6 +11,7 @@ use Rattle.calculus.specs.Term.{Term, number, truth, variable, function, appli
 use Rattle.calculus.specs.Substitution.{find, or-else, put, put-one, Closed}
 use Rattle.calculus.specs.Types.{Ty, int, bool, _⇒_, unknown, at, Has, Rule-has}
 use Rattle.calculus.specs.Stages.{start}
+use Rattle.calculus.specs.Laws.{Typed-is-closed}
 
 -- at
 
@@ -107,3 +108,7 @@ readings-typed (k ∷ readings) = (refl, readings-typed readings)
 
 pub start-has : (t : Tree) (τ : Ty) (readings : List ℤ) → Rule-has (length readings) t τ → Has [] (start readings t) τ
 start-has t τ readings h = put-has [] (replicate (length readings) int) (map number readings) (numbered 0 t) τ (readings-typed readings) h
+
+pub typed-is-closed : Typed-is-closed
+typed-is-closed r t τ h =
+    subst (λ n. Closed n (numbered 0 t)) (length-replicate r int) (has-closed (replicate r int) (numbered 0 t) τ h)

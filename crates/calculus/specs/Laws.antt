@@ -7,7 +7,8 @@ use lib.IntN.{ℤ}
 use lib.ListN.{length}
 use Prim.Native.Nat.{ℕ}
 use Rattle.syntax.specs.Tree.{Tree, nodes}
-use Rattle.calculus.specs.Term.{Term}
+use Rattle.calculus.specs.Term.{Term, numbered}
+use Rattle.calculus.specs.Substitution.{Closed}
 use Rattle.calculus.specs.Values.{is-value}
 use Rattle.calculus.specs.Types.{Ty, Has, Rule-has, Belongs}
 use Rattle.calculus.specs.Conditions.{Assignment, Meets, Cannot-meet}
@@ -20,6 +21,10 @@ use Rattle.calculus.specs.Length.{Length}
 -- no stage of a typed rule is stuck, whatever is read
 abbrev pub Never-stuck : Type 0
 Never-stuck = (t : Tree) (τ : Ty) (readings : List ℤ) → Rule-has (length readings) t τ → (n : ℕ) → ¬ (step (stage n (start readings t)) ≡ stuck)
+
+-- in a typed rule all variables are bound: each distance is below the binders around it and the readings
+abbrev pub Typed-is-closed : Type 0
+Typed-is-closed = (r : ℕ) (t : Tree) (τ : Ty) → Rule-has r t τ → Closed r (numbered 0 t)
 
 -- putting readings in keeps every type, and so does each reduction
 pub record Keeps-types : Type 0 where

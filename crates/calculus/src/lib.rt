@@ -6,13 +6,20 @@
 ghost use mathlib.Core.List.{[]};
 ghost use lib.IntN.{pos};
 ghost use Rattle.syntax.specs.Tree.{sum};
-ghost use Rattle.calculus.specs.Laws.{Never-stuck, Keeps-types, Has-length, Value-belongs, Determined, Typed-by-conditions, Spelling-tells, Has-general-type};
+ghost use Rattle.calculus.specs.Laws.{Never-stuck, Typed-is-closed, Keeps-types, Has-length, Value-belongs, Determined, Typed-by-conditions, Spelling-tells, Has-general-type};
 ghost use Rattle.calculus.specs.Length.{Answer};
 ghost use Rattle.calculus.specs.Figures.{Figures, Gives, thrice, leaving};
 
 /// A typed rule is never stuck.
 pub fn never_stuck() -> bool
     ensures { λ _. ⌜ Never-stuck ⌝ }
+{
+    true
+}
+
+/// In a typed rule all variables are bound.
+pub fn typed_is_closed() -> bool
+    ensures { λ _. ⌜ Typed-is-closed ⌝ }
 {
     true
 }
