@@ -1,0 +1,10 @@
+pub mod Substitution
+pub mod Typing
+pub mod Conditions
+pub mod General
+pub mod Unification
+pub mod Principal
+pub mod Reduction
+pub mod Safety
+pub mod Ending
+pub mod Figures

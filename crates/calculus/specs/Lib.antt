@@ -1,0 +1,13 @@
+pub mod Term
+pub mod Values
+pub mod Substitution
+pub mod Types
+pub mod Conditions
+pub mod General
+pub mod Range
+pub mod Rules
+pub mod Step
+pub mod Stages
+pub mod Length
+pub mod Laws
+pub mod Figures
