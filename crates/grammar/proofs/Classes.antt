@@ -15,7 +15,8 @@ use Rattle.grammar.specs.Grammar.{Expr, literal, boolean, used, lambda, apply,
 use Rattle.grammar.specs.Automaton.{Frame, paren, fun-body, let-bound, let-body, condition, then-branch, else-branch, State, operand, fun-name, fun-arrow, let-name, let-equals, Outcome, go, stuck, unknown, applied, summed, compared, start, is-end, close, at-binder, scope, and-then, step, run, found, any, in-force, starts-atom}
 use Rattle.grammar.specs.Walking.{Stand, Went, here, Unread, Wrong, no-sentence, no-name, unread, Reached, Through, Refuses, Expects, Missed, is-name}
 use Rattle.grammar.specs.Classes.{ReadAtom, ReadApp, ReadSum, ReadExpr, RefusedAtom, RefusedApp, RefusedSum, RefusedCmp, RefusedExpr}
-use Rattle.grammar.proofs.Walking.{through-one, through-++, reached-here, reached-over, reached-++, reached-refuses, reached-wrong, asked-over, missed-wrong, unread-refuses}
+use native.Mathlib.Omega.{arith}
+use Rattle.grammar.proofs.Walking.{through-one, through-++, through-current, went-current, reached-here, reached-over, reached-++, reached-refuses, reached-wrong, asked-over, missed-wrong, unread-refuses}
 
 -- ── tokens that end something ──
 
@@ -148,7 +149,7 @@ module _ (book : List Name) where
     leaf-name x d e cl sl ap′ k h = ap (λ b. cond b (go (operand cl sl (some (applied ap′ (used x))) k)) unknown) (ap found (ap (λ l. distance l x) h ∙ e))
 
     pub atom-leaf : (p q : Stand) (e : Expr) → Leaf (p .token) e → Went s p q → ReadAtom book names s p q e
-    atom-leaf p q e l w = (through-one s p q w, λ cl sl ap′ k h. reached-over book s p q (operand cl sl ap′ k) _ w (l cl sl ap′ k h))
+    atom-leaf p q e l w = (through-one s p q w, w .0 .0 .0, λ cl sl ap′ k h. reached-over book s p q (operand cl sl ap′ k) _ w (l cl sl ap′ k h))
 
     pub atom-leaf-unread : (p : Stand) (e : Expr) (n place : ℕ) → Leaf (p .token) e → Unread s (p .stop) n place → RefusedAtom book names s p n place
     atom-leaf-unread p e n place l u cl sl ap′ k h x = unread-refuses book s p (operand cl sl ap′ k) _ n place (l cl sl ap′ k h) u
@@ -186,17 +187,17 @@ module _ (book : List Name) where
 
     pub atom-paren : (p q r u : Stand) (e : Expr) → p .token ≡ mark Open → Went s p q → ReadExpr book names s q r e → is Close (r .token) ≡ true → Went s r u → ReadAtom book names s p u e
     atom-paren p q r u e t w x c v =
-        (through-++ s p q u (through-one s p q w) (through-++ s q r u (x .0) (through-one s r u v)), λ cl sl ap′ k h.
+        (through-++ s p q u (through-one s p q w) (through-++ s q r u (x .0) (through-one s r u v)), omega (arith, w .0 .0 .0, through-current s q u (through-++ s q r u (x .0) (through-one s r u v)) (went-current s p q w .0) .1), λ cl sl ap′ k h.
           let i = inside p q r e t w x cl sl ap′ k h in
           reached-++ book s p r u (operand cl sl ap′ k) (i .0) _ (i .1) (reached-over book s r u (i .0) _ v (asked-over book s (is Close) r (i .0) _ (i .2) c)))
 
     -- ── applications ──
 
     pub app-first : (p q : Stand) (e : Expr) → ReadAtom book names s p q e → ReadApp book names s p q e
-    app-first p q e x = (x .0, λ cl sl k h. x .1 cl sl none k h)
+    app-first p q e x = (x .0, λ cl sl k h. x .2 cl sl none k h)
 
     pub app-more : (p q r : Stand) (e f : Expr) → ReadApp book names s p q e → ReadAtom book names s q r f → ReadApp book names s p r (apply e f)
-    app-more p q r e f x y = (through-++ s p q r (x .0) (y .0), λ cl sl k h. reached-++ book s p q r (operand cl sl none k) (operand cl sl (some e) k) _ (x .1 cl sl k h) (y .1 cl sl (some e) k h))
+    app-more p q r e f x y = (through-++ s p q r (x .0) (y .0), λ cl sl k h. reached-++ book s p q r (operand cl sl none k) (operand cl sl (some e) k) _ (x .1 cl sl k h) (y .2 cl sl (some e) k h))
 
     pub app-first-refused : (p : Stand) (n place : ℕ) → RefusedAtom book names s p n place → RefusedApp book names s p n place
     app-first-refused p n place x cl sl k h y = x cl sl none k h y

@@ -5,3 +5,4 @@ pub mod Judging
 pub mod Lexing
 pub mod Walking
 pub mod Classes
+pub mod Binders

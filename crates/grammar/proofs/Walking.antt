@@ -74,7 +74,7 @@ token-name w x h = subst (OwnSome w) h (own-token w) refl
 
 -- ── where a reader stands ──
 
-went-current : (s : List ℕ) (p q : Stand) → Went s p q → Current s q × (p .stop ≤ q .place)
+pub went-current : (s : List ℕ) (p q : Stand) → Went s p q → Current s q × (p .stop ≤ q .place)
 went-current s p q w =
     let b = w .0 .0 in
     (⊎-elim
@@ -97,9 +97,6 @@ went-current s p q w =
 pub passes-current : (s : List ℕ) {p q : Stand} {ts : List Token} → Passes s p ts q → Current s p → Current s q × (p .place ≤ q .place)
 passes-current s here c = (c, omega arith)
 passes-current s (over {p} {q} w ps) c = let a = went-current s p q w in let r = passes-current s ps (a .0) in (r .0, omega (arith, c .forward, a .1, r .1))
-
-pub went-on : (s : List ℕ) (p q : Stand) → Went s p q → Current s p → Current s q × (p .stop ≤ q .place)
-went-on s p q w c = went-current s p q w
 
 pub passes-++ : (s : List ℕ) {p q r : Stand} {ts us : List Token} → Passes s p ts q → Passes s q us r → Passes s p (ts ++ us) r
 passes-++ s here qs = qs

@@ -3,7 +3,7 @@ use mathlib.Core.Bool.{Bool, true, false}
 use mathlib.Core.List.{List}
 use mathlib.Core.Option.{Option, some, none}
 use mathlib.Core.Path.{_≡_}
-use Prim.Native.Nat.{ℕ}
+use Prim.Native.Nat.{ℕ, _≤_}
 use Rattle.grammar.specs.declared.Mark.the-variants.{Plus}
 use Rattle.grammar.specs.Token.{Name, Token, is}
 use Rattle.grammar.specs.Grammar.{Expr}
@@ -13,7 +13,7 @@ use Rattle.grammar.specs.Walking.{Stand, Through, Reached, Refuses, Expects}
 -- book: the readings' names; names: all names in force; from p to q the class with tree e is read
 module _ (book names : List Name) (s : List ℕ) (p q : Stand) (e : Expr) where
   abbrev pub ReadAtom : Type 0
-  ReadAtom = Through s p q × ((cl sl ap : Option Expr) (k : List Frame) → scope book k ≡ names → Reached book s p (operand cl sl ap k) q (operand cl sl (some (applied ap e)) k))
+  ReadAtom = Through s p q × (p .stop ≤ q .place) × ((cl sl ap : Option Expr) (k : List Frame) → scope book k ≡ names → Reached book s p (operand cl sl ap k) q (operand cl sl (some (applied ap e)) k))
 
   abbrev pub ReadApp : Type 0
   ReadApp = Through s p q × ((cl sl : Option Expr) (k : List Frame) → scope book k ≡ names → Reached book s p (operand cl sl none k) q (operand cl sl (some e) k))

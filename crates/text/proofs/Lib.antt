@@ -5,3 +5,7 @@ pub mod Finding
 pub mod Naming
 pub mod Amounting
 pub mod Turns
+pub mod Growing
+pub mod Readiness
+pub mod Leaves
+pub mod Rules

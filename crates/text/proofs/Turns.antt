@@ -1,9 +1,11 @@
 -- What the loops of the parser keep. Assumes nothing.
 use mathlib.Core.List.{List, _++_}
+use mathlib.Core.Bool.{false}
 use mathlib.Core.Option.{some}
 use mathlib.Core.Path.{_≡_}
 use Prim.Native.Nat.{ℕ}
 use Rattle.syntax.specs.Tree.{Tree}
+use Rattle.grammar.specs.Automaton.{starts-atom}
 use Rattle.grammar.specs.Classes.{ReadApp, ReadSum}
 use Rattle.grammar.specs.Grammar.{Expr}
 use Rattle.grammar.specs.Names.{resolved}
@@ -25,4 +27,5 @@ module _ (s : List ℕ) (book opened : List Name) (first : Parser) (root : ℕ) 
       Through s (at first) (at now) × ((p : Stand) (before : Table) → Read (ReadApp book (opened ++ book) s p) (opened ++ book) before first root → Read (ReadApp book (opened ++ book) s p) (opened ++ book) before now root′)
 
   abbrev pub SumSoFar : Type 0
-  SumSoFar = Through s (at first) (at now) × ((p : Stand) (before : Table) → Read (ReadSum book (opened ++ book) s p) (opened ++ book) before first root → Read (ReadSum book (opened ++ book) s p) (opened ++ book) before now root′)
+  SumSoFar =
+      Through s (at first) (at now) × (starts-atom (at first .token) ≡ false → starts-atom (at now .token) ≡ false) × ((p : Stand) (before : Table) → Read (ReadSum book (opened ++ book) s p) (opened ++ book) before first root → Read (ReadSum book (opened ++ book) s p) (opened ++ book) before now root′)

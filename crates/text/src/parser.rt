@@ -224,8 +224,11 @@ impl<'a> Parser<'a> {
     {
         let place = self.current.place;
         match self.current.token {
-            Token::Mark(Mark::True) => Ok(Node::Truth(true)),
-            Token::Mark(Mark::False) => Ok(Node::Truth(false)),
+            Token::Mark(mark) => match mark {
+                Mark::True => Ok(Node::Truth(true)),
+                Mark::False => Ok(Node::Truth(false)),
+                _ => Err(CompileFault::Unexpected(place)),
+            },
             Token::Number(spelled) => match amount(spelled) {
                 Some(number) => Ok(Node::Number(number)),
                 None => Err(LexFault::OutOfRange(place).into()),
@@ -234,7 +237,7 @@ impl<'a> Parser<'a> {
                 Some(far) => Ok(Node::Variable(far)),
                 None => Err(CompileFault::Unknown(place)),
             },
-            _ => Err(CompileFault::Unexpected(place)),
+            Token::End => Err(CompileFault::Unexpected(place)),
         }
     }
 }

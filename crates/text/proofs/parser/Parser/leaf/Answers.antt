@@ -6,16 +6,17 @@ use mir.Val.{ofZ, toZ}
 use Rattle.syntax.specs.Tree.{Tree}
 use Rattle.grammar.specs.Grammar.{boolean, literal, used}
 use Rattle.grammar.specs.Names.{variable-at}
+use Rattle.grammar.specs.Token as plain
 use Rattle.text.specs.declared.node.Node.the-variants.{Number}
 use Rattle.text.specs.Parsing.{leaf}
 use Rattle.text.specs.Shown.{shown, value}
 use Rattle.text.proofs.parser.Parser.leaf.Needs as need
 
-pub returns-in-Mark-True : need.returns-in-Mark-True
-returns-in-Mark-True c = (boolean true, Tree.truth true, ap (λ t. leaf (shown t)) (c .in-Mark-True .is), refl, refl)
+pub returns-in-True : need.returns-in-True
+returns-in-True c = (boolean true, Tree.truth true, ap (λ t. leaf (shown t)) (c .in-Mark .is) ∙ ap (λ m. leaf (plain.mark m)) (c .in-True .is), refl, refl)
 
-pub returns-in-Mark-False : need.returns-in-Mark-False
-returns-in-Mark-False c = (boolean false, Tree.truth false, ap (λ t. leaf (shown t)) (c .in-Mark-False .is), refl, refl)
+pub returns-in-False : need.returns-in-False
+returns-in-False c = (boolean false, Tree.truth false, ap (λ t. leaf (shown t)) (c .in-Mark .is) ∙ ap (λ m. leaf (plain.mark m)) (c .in-False .is), refl, refl)
 
 pub returns-in-Some : need.returns-in-Some
 returns-in-Some c =
