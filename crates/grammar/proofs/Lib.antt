@@ -6,3 +6,4 @@ pub mod Lexing
 pub mod Walking
 pub mod Classes
 pub mod Binders
+pub mod Verdicts

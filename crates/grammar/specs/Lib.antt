@@ -7,3 +7,4 @@ pub mod Sentence
 pub mod Automaton
 pub mod Walking
 pub mod Classes
+pub mod Verdict
