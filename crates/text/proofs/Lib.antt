@@ -9,3 +9,5 @@ pub mod Growing
 pub mod Readiness
 pub mod Leaves
 pub mod Rules
+pub mod Writes
+pub mod Records

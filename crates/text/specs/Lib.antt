@@ -6,3 +6,5 @@ pub mod Books
 pub mod Scopes
 pub mod Faults
 pub mod Parsing
+pub mod Writing
+pub mod Compiling

@@ -1,6 +1,6 @@
 //! Questions to a token.
 ghost use mathlib.Core.Path.{_≡_};
-ghost use Rattle.grammar.specs.Automaton.{starts-atom};
+ghost use Rattle.grammar.specs.Automaton.{is-end, starts-atom};
 ghost use Rattle.grammar.specs.Token.{is};
 ghost use Rattle.grammar.specs.Walking.{is-name};
 ghost use Rattle.text.specs.Shown.{shown};
@@ -14,6 +14,13 @@ impl Token<'_> {
         ensures { λ r. ⌜ r ≡ is-name (shown (now (self .entry))) ⌝ }
     {
         matches!(self, Token::Name(_))
+    }
+
+    /// Whether it is the end of the text.
+    pub(crate) fn is_end(&self) -> bool
+        ensures { λ r. ⌜ r ≡ is-end (shown (now (self .entry))) ⌝ }
+    {
+        matches!(self, Token::End)
     }
 
     /// Whether it is this keyword or sign.

@@ -105,7 +105,7 @@ impl Book {
 
     /// How many readings the book has named.
     pub fn readings(&self) -> usize
-        ensures { λ r. ⌜ r ≡ length (names (now (self .entry))) ⌝ }
+        ensures { λ r. ⌜ r ≡ length (names (now (self .entry))) ⌝ ∗ ⌜ r ≤ 8 ⌝ }
     {
         self.count
     }

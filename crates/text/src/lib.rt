@@ -1,6 +1,7 @@
 //! A rule text becomes its record.
 mod ask;
 pub mod book;
+pub mod compile;
 pub mod fault;
 mod lexer;
 pub mod name;
@@ -11,3 +12,4 @@ pub mod refusal;
 mod scope;
 mod table;
 pub mod token;
+mod write;

@@ -17,6 +17,7 @@ pub(crate) struct Name {
 }
 
 /// The names of the readings, the first for reading 0. A book begins empty.
+#[derive(Drop)]
 pub struct Book {
     pub(crate) names: [Name; MOST_READINGS],
     pub(crate) count: usize,

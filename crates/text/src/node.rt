@@ -22,6 +22,7 @@ pub(crate) enum Node {
 
 /// Nodes in the order in which they were completed, children before their parents. A text may have
 /// more nodes than a rule: past the table they are only noticed, as one too many.
+#[derive(Drop)]
 pub(crate) struct Table {
     pub(crate) nodes: [Node; MOST_NODES],
     pub(crate) count: usize,

@@ -27,6 +27,7 @@ use crate::token::Token;
 use grammar::Mark;
 
 /// The token in hand, and the nodes of what has been read.
+#[derive(Drop)]
 pub(crate) struct Parser<'a> {
     pub(crate) current: Placed<'a>,
     pub(crate) table: Table,

@@ -19,6 +19,7 @@ pub(crate) struct Part {
 }
 
 /// The opened names, the newest last.
+#[derive(Drop)]
 pub(crate) struct Scope {
     pub(crate) parts: [Part; MOST_OPEN],
     pub(crate) count: usize,
