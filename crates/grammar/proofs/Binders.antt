@@ -8,9 +8,10 @@ use Rattle.grammar.specs.declared.Mark.the-variants.{Fun, Let, In, If, Then, E
 use Rattle.grammar.specs.Token.{Name, Token, mark, name, numeral, end, is}
 use Rattle.grammar.specs.Grammar.{Expr, lambda, let-in, if-else}
 use Rattle.grammar.specs.Reading.{part}
-use Rattle.grammar.specs.Automaton.{Frame, fun-body, let-bound, let-body, condition, then-branch, else-branch, State, fun-name, fun-arrow, let-name, let-equals, go, stuck, start, at-binder, scope, step, in-force}
+use Rattle.grammar.specs.Automaton.{Frame, fun-body, let-bound, let-body, condition, then-branch, else-branch, State, fun-name, fun-arrow, let-name, let-equals, go, stuck, is-end, start, at-binder, scope, step, in-force}
 use Rattle.grammar.specs.Walking.{Stand, Current, Went, Unread, Missed, is-name}
 use Rattle.grammar.specs.Classes.{ReadExpr, RefusedExpr}
+use Rattle.grammar.proofs.Walking.{mark-on, name-on}
 use Rattle.grammar.proofs.Classes.{Partly, partly-here, partly-over, partly-asked, partly-missed, partly-unread, partly-refused, partly-last, partly-turn, partly-turn-missed}
 
 -- the bytes of a name token
@@ -42,29 +43,29 @@ module _ (book names : List Name) (s : List ℕ) where
     open-step p t k = ap (step in-force book (start k)) t ∙ opens k
 
     pub begun : (p q : Stand) → p .token ≡ mark m → Went s p q → Partly book names s p q named
-    begun p q t w = partly-over book names s p p q start named (partly-here book names s p) w (open-step p t)
+    begun p q t w = partly-over book names s p p q start named (partly-here book names s p) (ap is-end t) w (open-step p t)
 
     pub begun-unread : (p : Stand) (n place : ℕ) → p .token ≡ mark m → Unread s (p .stop) n place → RefusedExpr book names s p n place
-    begun-unread p n place t u = partly-unread book names s p p start named n place (partly-here book names s p) (open-step p t) u
+    begun-unread p n place t u = partly-unread book names s p p start named n place (partly-here book names s p) (ap is-end t) (open-step p t) u
 
     -- the name, and the sign behind it
     module _ (after : Name → List Frame → State) (binds : (k : List Frame) (t : Token) → step in-force book (named k) t ≡ at-binder (λ x. after x k) t) where
       pub begun-unnamed : (p q : Stand) (n place : ℕ) → p .token ≡ mark m → Went s p q → Missed is-name s q n place → RefusedExpr book names s p n place
       begun-unnamed p q n place t w u =
-          partly-missed book names s is-name p q named (after (name-of (q .token))) n place (begun p q t w) (λ k. binds k (q .token) ∙ binder-step (λ x. after x k) (q .token)) u
+          partly-missed book names s is-name name-on p q named (after (name-of (q .token))) n place (begun p q t w) (λ k. binds k (q .token) ∙ binder-step (λ x. after x k) (q .token)) u
 
       pub begun-named : (p q r : Stand) → p .token ≡ mark m → Went s p q → is-name (q .token) ≡ true → Went s q r → Partly book names s p r (after (name-of (q .token)))
       begun-named p q r t w h v =
-          partly-asked book names s is-name p q r named (after (name-of (q .token))) (begun p q t w) (λ k. binds k (q .token) ∙ binder-step (λ x. after x k) (q .token)) h v
+          partly-asked book names s is-name name-on p q r named (after (name-of (q .token))) (begun p q t w) (λ k. binds k (q .token) ∙ binder-step (λ x. after x k) (q .token)) h v
 
       module _ (sign : Mark) (frame : Name → Frame) (signs : (x : Name) (k : List Frame) (t : Token) → step in-force book (after x k) t ≡ cond (is sign t) (go (start (frame x ∷ k))) stuck) where
         pub begun-unsigned : (p q r : Stand) (n place : ℕ) → p .token ≡ mark m → Went s p q → is-name (q .token) ≡ true → Went s q r → Missed (is sign) s r n place → RefusedExpr book names s p n place
         begun-unsigned p q r n place t w h v u =
-            partly-missed book names s (is sign) p r (after (name-of (q .token))) (λ k. start (frame (name-of (q .token)) ∷ k)) n place (begun-named p q r t w h v) (λ k. signs (name-of (q .token)) k (r .token)) u
+            partly-missed book names s (is sign) (mark-on sign) p r (after (name-of (q .token))) (λ k. start (frame (name-of (q .token)) ∷ k)) n place (begun-named p q r t w h v) (λ k. signs (name-of (q .token)) k (r .token)) u
 
         pub begun-signed : (p q r u : Stand) → p .token ≡ mark m → Went s p q → is-name (q .token) ≡ true → Went s q r → is sign (r .token) ≡ true → Went s r u → Partly book names s p u (λ k. start (frame (name-of (q .token)) ∷ k))
         begun-signed p q r u t w h v g y =
-            partly-asked book names s (is sign) p r u (after (name-of (q .token))) (λ k. start (frame (name-of (q .token)) ∷ k)) (begun-named p q r t w h v) (λ k. signs (name-of (q .token)) k (r .token)) g y
+            partly-asked book names s (is sign) (mark-on sign) p r u (after (name-of (q .token))) (λ k. start (frame (name-of (q .token)) ∷ k)) (begun-named p q r t w h v) (λ k. signs (name-of (q .token)) k (r .token)) g y
 
   -- ── fun ──
 
@@ -125,11 +126,11 @@ module _ (book names : List Name) (s : List ℕ) where
   if-step p t k = ap (step in-force book (start k)) t
 
   pub if-unread : (p : Stand) (n place : ℕ) → p .token ≡ mark If → Unread s (p .stop) n place → RefusedExpr book names s p n place
-  if-unread p n place t u = partly-unread book names s p p start (λ k. start (condition ∷ k)) n place (partly-here book names s p) (if-step p t) u
+  if-unread p n place t u = partly-unread book names s p p start (λ k. start (condition ∷ k)) n place (partly-here book names s p) (ap is-end t) (if-step p t) u
 
   module _ (p q : Stand) (t : p .token ≡ mark If) (w : Went s p q) where
     if-begun : Partly book names s p q (λ k. start (condition ∷ k))
-    if-begun = partly-over book names s p p q start (λ k. start (condition ∷ k)) (partly-here book names s p) w (if-step p t)
+    if-begun = partly-over book names s p p q start (λ k. start (condition ∷ k)) (partly-here book names s p) (ap is-end t) w (if-step p t)
 
     pub if-condition-refused : (n place : ℕ) → RefusedExpr book names s q n place → RefusedExpr book names s p n place
     if-condition-refused n place x = partly-refused book names s names condition (λ k e. e) p q n place if-begun x

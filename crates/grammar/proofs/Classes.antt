@@ -16,7 +16,7 @@ use Rattle.grammar.specs.Automaton.{Frame, paren, fun-body, let-bound, let-bod
 use Rattle.grammar.specs.Walking.{Stand, Went, here, Unread, Wrong, no-sentence, no-name, unread, Reached, Through, Refuses, Expects, Missed, is-name}
 use Rattle.grammar.specs.Classes.{ReadAtom, ReadApp, ReadSum, ReadExpr, RefusedAtom, RefusedApp, RefusedSum, RefusedCmp, RefusedExpr}
 use native.Mathlib.Omega.{arith}
-use Rattle.grammar.proofs.Walking.{through-one, through-++, through-current, went-current, reached-here, reached-over, reached-++, reached-refuses, reached-wrong, asked-over, missed-wrong, unread-refuses}
+use Rattle.grammar.proofs.Walking.{through-one, through-++, through-current, went-current, reached-here, reached-over, reached-++, reached-refuses, reached-wrong, asked-over, missed-wrong, unread-refuses, mark-on}
 
 -- ── tokens that end something ──
 
@@ -148,11 +148,11 @@ module _ (book : List Name) where
     pub leaf-name : (x : Name) (d : ℕ) → distance names x ≡ some d → Leaf (name x) (used x)
     leaf-name x d e cl sl ap′ k h = ap (λ b. cond b (go (operand cl sl (some (applied ap′ (used x))) k)) unknown) (ap found (ap (λ l. distance l x) h ∙ e))
 
-    pub atom-leaf : (p q : Stand) (e : Expr) → Leaf (p .token) e → Went s p q → ReadAtom book names s p q e
-    atom-leaf p q e l w = (through-one s p q w, w .0 .0 .0, λ cl sl ap′ k h. reached-over book s p q (operand cl sl ap′ k) _ w (l cl sl ap′ k h))
+    pub atom-leaf : (p q : Stand) (e : Expr) → is-end (p .token) ≡ false → Leaf (p .token) e → Went s p q → ReadAtom book names s p q e
+    atom-leaf p q e o l w = (through-one s p q o w, w .0 .0 .0, λ cl sl ap′ k h. reached-over book s p q (operand cl sl ap′ k) _ o w (l cl sl ap′ k h))
 
-    pub atom-leaf-unread : (p : Stand) (e : Expr) (n place : ℕ) → Leaf (p .token) e → Unread s (p .stop) n place → RefusedAtom book names s p n place
-    atom-leaf-unread p e n place l u cl sl ap′ k h x = unread-refuses book s p (operand cl sl ap′ k) _ n place (l cl sl ap′ k h) u
+    pub atom-leaf-unread : (p : Stand) (e : Expr) (n place : ℕ) → is-end (p .token) ≡ false → Leaf (p .token) e → Unread s (p .stop) n place → RefusedAtom book names s p n place
+    atom-leaf-unread p e n place o l u cl sl ap′ k h x = unread-refuses book s p (operand cl sl ap′ k) _ n place o (l cl sl ap′ k h) u
 
     pub atom-unknown : (p : Stand) (x : Name) → p .token ≡ name x → distance names x ≡ none → RefusedAtom book names s p 57 (p .place)
     atom-unknown p x t e cl sl ap′ k h y =
@@ -169,27 +169,27 @@ module _ (book : List Name) where
     open-step p cl sl ap′ k t = ap (step in-force book (operand cl sl ap′ k)) t
 
     pub paren-unread : (p : Stand) (n place : ℕ) → p .token ≡ mark Open → Unread s (p .stop) n place → RefusedAtom book names s p n place
-    paren-unread p n place t u cl sl ap′ k h x = unread-refuses book s p (operand cl sl ap′ k) _ n place (open-step p cl sl ap′ k t) u
+    paren-unread p n place t u cl sl ap′ k h x = unread-refuses book s p (operand cl sl ap′ k) _ n place (ap is-end t) (open-step p cl sl ap′ k t) u
 
     pub paren-refused : (p q : Stand) (n place : ℕ) → p .token ≡ mark Open → Went s p q → RefusedExpr book names s q n place → RefusedAtom book names s p n place
-    paren-refused p q n place t w r cl sl ap′ k h x = reached-refuses book s p q _ _ n place (reached-over book s p q (operand cl sl ap′ k) _ w (open-step p cl sl ap′ k t)) (r (paren cl sl ap′ ∷ k) h)
+    paren-refused p q n place t w r cl sl ap′ k h x = reached-refuses book s p q _ _ n place (reached-over book s p q (operand cl sl ap′ k) _ (ap is-end t) w (open-step p cl sl ap′ k t)) (r (paren cl sl ap′ ∷ k) h)
 
     -- up to the parenthesis that should close
     inside : (p q r : Stand) (e : Expr) → p .token ≡ mark Open → Went s p q → ReadExpr book names s q r e → (cl sl ap′ : Option Expr) (k : List Frame) → scope book k ≡ names → (a : State) × Reached book s p (operand cl sl ap′ k) r a × (step in-force book a (r .token) ≡ cond (is Close (r .token)) (go (operand cl sl (some (applied ap′ e)) k)) stuck)
     inside p q r e t w x cl sl ap′ k h =
         let y = x .1 (paren cl sl ap′ ∷ k) h in
-        (y .0, reached-++ book s p q r (operand cl sl ap′ k) (start (paren cl sl ap′ ∷ k)) (y .0) (reached-over book s p q _ _ w (open-step p cl sl ap′ k t)) (y .1), y .2)
+        (y .0, reached-++ book s p q r (operand cl sl ap′ k) (start (paren cl sl ap′ ∷ k)) (y .0) (reached-over book s p q _ _ (ap is-end t) w (open-step p cl sl ap′ k t)) (y .1), y .2)
 
     pub paren-missed : (p q r : Stand) (e : Expr) (n place : ℕ) → p .token ≡ mark Open → Went s p q → ReadExpr book names s q r e → Missed (is Close) s r n place → RefusedAtom book names s p n place
     paren-missed p q r e n place t w x m cl sl ap′ k h y =
         let i = inside p q r e t w x cl sl ap′ k h in
-        reached-wrong book s p r _ (i .0) n place (i .1) (missed-wrong book s (is Close) r (i .0) _ n place (i .2) m)
+        reached-wrong book s p r _ (i .0) n place (i .1) (missed-wrong book s (is Close) (mark-on Close) r (i .0) _ n place (i .2) m)
 
     pub atom-paren : (p q r u : Stand) (e : Expr) → p .token ≡ mark Open → Went s p q → ReadExpr book names s q r e → is Close (r .token) ≡ true → Went s r u → ReadAtom book names s p u e
     atom-paren p q r u e t w x c v =
-        (through-++ s p q u (through-one s p q w) (through-++ s q r u (x .0) (through-one s r u v)), omega (arith, w .0 .0 .0, through-current s q u (through-++ s q r u (x .0) (through-one s r u v)) (went-current s p q w .0) .1), λ cl sl ap′ k h.
+        (through-++ s p q u (through-one s p q (ap is-end t) w) (through-++ s q r u (x .0) (through-one s r u (mark-on Close (r .token) c) v)), omega (arith, w .0 .0 .0, through-current s q u (through-++ s q r u (x .0) (through-one s r u (mark-on Close (r .token) c) v)) (went-current s p q w .0) .1), λ cl sl ap′ k h.
           let i = inside p q r e t w x cl sl ap′ k h in
-          reached-++ book s p r u (operand cl sl ap′ k) (i .0) _ (i .1) (reached-over book s r u (i .0) _ v (asked-over book s (is Close) r (i .0) _ (i .2) c)))
+          reached-++ book s p r u (operand cl sl ap′ k) (i .0) _ (i .1) (reached-over book s r u (i .0) _ (mark-on Close (r .token) c) v (asked-over book s (is Close) r (i .0) _ (i .2) c)))
 
     -- ── applications ──
 
@@ -220,16 +220,16 @@ module _ (book : List Name) where
     over-plus : (p q r : Stand) (e : Expr) → ReadSum book names s p q e → q .token ≡ mark Plus → Went s q r → (cl : Option Expr) (k : List Frame) → scope book k ≡ names → Reached book s p (operand cl none none k) r (operand cl (some e) none k)
     over-plus p q r e x t w cl k h =
         let y = x .1 cl k h in
-        reached-++ book s p q r (operand cl none none k) (operand cl (y .0) (some (y .1)) k) _ (y .2) (reached-over book s q r _ _ w (plus-step q cl (y .0) (y .1) e k t (y .3)))
+        reached-++ book s p q r (operand cl none none k) (operand cl (y .0) (some (y .1)) k) _ (y .2) (reached-over book s q r _ _ (ap is-end t) w (plus-step q cl (y .0) (y .1) e k t (y .3)))
 
     pub sum-more : (p q r u : Stand) (e f : Expr) → ReadSum book names s p q e → q .token ≡ mark Plus → Went s q r → ReadApp book names s r u f → ReadSum book names s p u (plus e f)
     sum-more p q r u e f x t w y =
-        (through-++ s p q u (x .0) (through-++ s q r u (through-one s q r w) (y .0)), λ cl k h. (some e, f, reached-++ book s p r u (operand cl none none k) (operand cl (some e) none k) _ (over-plus p q r e x t w cl k h) (y .1 cl (some e) k h), refl))
+        (through-++ s p q u (x .0) (through-++ s q r u (through-one s q r (ap is-end t) w) (y .0)), λ cl k h. (some e, f, reached-++ book s p r u (operand cl none none k) (operand cl (some e) none k) _ (over-plus p q r e x t w cl k h) (y .1 cl (some e) k h), refl))
 
     pub sum-plus-unread : (p q : Stand) (e : Expr) (n place : ℕ) → ReadSum book names s p q e → q .token ≡ mark Plus → Unread s (q .stop) n place → RefusedSum book names s p n place
     sum-plus-unread p q e n place x t u cl k h z =
         let y = x .1 cl k h in
-        reached-wrong book s p q (operand cl none none k) (operand cl (y .0) (some (y .1)) k) n place (y .2) (unread (plus-step q cl (y .0) (y .1) e k t (y .3)) u)
+        reached-wrong book s p q (operand cl none none k) (operand cl (y .0) (some (y .1)) k) n place (y .2) (unread (ap is-end t) (plus-step q cl (y .0) (y .1) e k t (y .3)) u)
 
     pub sum-more-refused : (p q r : Stand) (e : Expr) (n place : ℕ) → ReadSum book names s p q e → q .token ≡ mark Plus → Went s q r → RefusedApp book names s r n place → RefusedSum book names s p n place
     sum-more-refused p q r e n place x t w y cl k h z = reached-refuses book s p r (operand cl none none k) (operand cl (some e) none k) n place (over-plus p q r e x t w cl k h) (y cl (some e) k h (expects-begun cl (some e) k (r .token) (begun-sum cl e)))
@@ -249,18 +249,18 @@ module _ (book : List Name) where
     over-at-most : (p q r : Stand) (e : Expr) → ReadSum book names s p q e → q .token ≡ mark AtMost → Went s q r → (k : List Frame) → scope book k ≡ names → Reached book s p (start k) r (operand (some e) none none k)
     over-at-most p q r e x t w k h =
         let y = x .1 none k h in
-        reached-++ book s p q r (start k) (operand none (y .0) (some (y .1)) k) _ (y .2) (reached-over book s q r _ _ w (at-most-step q (y .0) (y .1) e k t (y .3)))
+        reached-++ book s p q r (start k) (operand none (y .0) (some (y .1)) k) _ (y .2) (reached-over book s q r _ _ (ap is-end t) w (at-most-step q (y .0) (y .1) e k t (y .3)))
 
     pub cmp-at-most : (p q r u : Stand) (e f : Expr) → ReadSum book names s p q e → q .token ≡ mark AtMost → Went s q r → ReadSum book names s r u f → starts-atom (u .token) ≡ false → is Plus (u .token) ≡ false → ReadExpr book names s p u (at-most e f)
     cmp-at-most p q r u e f x t w y a b =
-        (through-++ s p q u (x .0) (through-++ s q r u (through-one s q r w) (y .0)), λ k h.
+        (through-++ s p q u (x .0) (through-++ s q r u (through-one s q r (ap is-end t) w) (y .0)), λ k h.
           let z = y .1 (some e) k h in
           (operand (some e) (z .0) (some (z .1)) k, reached-++ book s p r u (start k) (operand (some e) none none k) _ (over-at-most p q r e x t w k h) (z .2), step-after (some e) (z .0) (z .1) k (u .token) a b tt ∙ ap (λ g. close (u .token) (at-most e g) k) (z .3)))
 
     pub cmp-at-most-unread : (p q : Stand) (e : Expr) (n place : ℕ) → ReadSum book names s p q e → q .token ≡ mark AtMost → Unread s (q .stop) n place → RefusedCmp book names s p n place
     cmp-at-most-unread p q e n place x t u k h z =
         let y = x .1 none k h in
-        reached-wrong book s p q (start k) (operand none (y .0) (some (y .1)) k) n place (y .2) (unread (at-most-step q (y .0) (y .1) e k t (y .3)) u)
+        reached-wrong book s p q (start k) (operand none (y .0) (some (y .1)) k) n place (y .2) (unread (ap is-end t) (at-most-step q (y .0) (y .1) e k t (y .3)) u)
 
     pub cmp-at-most-refused : (p q r : Stand) (e : Expr) (n place : ℕ) → ReadSum book names s p q e → q .token ≡ mark AtMost → Went s q r → RefusedSum book names s r n place → RefusedCmp book names s p n place
     cmp-at-most-refused p q r e n place x t w y k h z = reached-refuses book s p r (start k) (operand (some e) none none k) n place (over-at-most p q r e x t w k h) (y (some e) k h (expects-begun (some e) none k (r .token) tt))
@@ -278,18 +278,18 @@ module _ (book : List Name) where
     partly-here p = (([], here), λ k h. reached-here book s p (start k))
 
     -- one token more
-    pub partly-over : (p q r : Stand) (a b : List Frame → State) → Partly p q a → Went s q r → ((k : List Frame) → step in-force book (a k) (q .token) ≡ go (b k)) → Partly p r b
-    partly-over p q r a b x w f = (through-++ s p q r (x .0) (through-one s q r w), λ k h. reached-++ book s p q r (start k) (a k) (b k) (x .1 k h) (reached-over book s q r (a k) (b k) w (f k)))
+    pub partly-over : (p q r : Stand) (a b : List Frame → State) → Partly p q a → is-end (q .token) ≡ false → Went s q r → ((k : List Frame) → step in-force book (a k) (q .token) ≡ go (b k)) → Partly p r b
+    partly-over p q r a b x o w f = (through-++ s p q r (x .0) (through-one s q r o w), λ k h. reached-++ book s p q r (start k) (a k) (b k) (x .1 k h) (reached-over book s q r (a k) (b k) o w (f k)))
 
     -- one token that was asked for
-    pub partly-asked : (asked : Token → Bool) (p q r : Stand) (a b : List Frame → State) → Partly p q a → ((k : List Frame) → step in-force book (a k) (q .token) ≡ cond (asked (q .token)) (go (b k)) stuck) → asked (q .token) ≡ true → Went s q r → Partly p r b
-    partly-asked asked p q r a b x f t w = partly-over p q r a b x w (λ k. asked-over book s asked q (a k) (b k) (f k) t)
+    pub partly-asked : (asked : Token → Bool) → ((t : Token) → asked t ≡ true → is-end t ≡ false) → (p q r : Stand) (a b : List Frame → State) → Partly p q a → ((k : List Frame) → step in-force book (a k) (q .token) ≡ cond (asked (q .token)) (go (b k)) stuck) → asked (q .token) ≡ true → Went s q r → Partly p r b
+    partly-asked asked on p q r a b x f t w = partly-over p q r a b x (on (q .token) t) w (λ k. asked-over book s asked q (a k) (b k) (f k) t)
 
-    pub partly-missed : (asked : Token → Bool) (p q : Stand) (a b : List Frame → State) (n place : ℕ) → Partly p q a → ((k : List Frame) → step in-force book (a k) (q .token) ≡ cond (asked (q .token)) (go (b k)) stuck) → Missed asked s q n place → RefusedExpr book names s p n place
-    partly-missed asked p q a b n place x f m k h = reached-wrong book s p q (start k) (a k) n place (x .1 k h) (missed-wrong book s asked q (a k) (b k) n place (f k) m)
+    pub partly-missed : (asked : Token → Bool) → ((t : Token) → asked t ≡ true → is-end t ≡ false) → (p q : Stand) (a b : List Frame → State) (n place : ℕ) → Partly p q a → ((k : List Frame) → step in-force book (a k) (q .token) ≡ cond (asked (q .token)) (go (b k)) stuck) → Missed asked s q n place → RefusedExpr book names s p n place
+    partly-missed asked on p q a b n place x f m k h = reached-wrong book s p q (start k) (a k) n place (x .1 k h) (missed-wrong book s asked on q (a k) (b k) n place (f k) m)
 
-    pub partly-unread : (p q : Stand) (a b : List Frame → State) (n place : ℕ) → Partly p q a → ((k : List Frame) → step in-force book (a k) (q .token) ≡ go (b k)) → Unread s (q .stop) n place → RefusedExpr book names s p n place
-    partly-unread p q a b n place x f u k h = reached-wrong book s p q (start k) (a k) n place (x .1 k h) (unread (f k) u)
+    pub partly-unread : (p q : Stand) (a b : List Frame → State) (n place : ℕ) → Partly p q a → is-end (q .token) ≡ false → ((k : List Frame) → step in-force book (a k) (q .token) ≡ go (b k)) → Unread s (q .stop) n place → RefusedExpr book names s p n place
+    partly-unread p q a b n place x o f u k h = reached-wrong book s p q (start k) (a k) n place (x .1 k h) (unread o (f k) u)
 
     -- an inner expression under one frame more, which has the names `inner` in force
     module _ (inner : List Name) (frame : Frame) (fits : (k : List Frame) → scope book k ≡ names → scope book (frame ∷ k) ≡ inner) where
@@ -308,11 +308,11 @@ module _ (book : List Name) where
       module _ (m : Mark) (next : Frame) (e : Expr) (turns : (t : Token) (k : List Frame) → close t e (frame ∷ k) ≡ cond (is m t) (go (start (next ∷ k))) stuck) where
         pub partly-turn : (p q r u : Stand) → Partly p q (λ k. start (frame ∷ k)) → ReadExpr book inner s q r e → is m (r .token) ≡ true → Went s r u → Partly p u (λ k. start (next ∷ k))
         partly-turn p q r u x y t w =
-            (through-++ s p q u (x .0) (through-++ s q r u (y .0) (through-one s r u w)), λ k h.
+            (through-++ s p q u (x .0) (through-++ s q r u (y .0) (through-one s r u (mark-on m (r .token) t) w)), λ k h.
               let z = inner-state p q r e x y k h in
-              reached-++ book s p r u (start k) (z .0) _ (z .1) (reached-over book s r u (z .0) _ w (asked-over book s (is m) r (z .0) _ (z .2 ∙ turns (r .token) k) t)))
+              reached-++ book s p r u (start k) (z .0) _ (z .1) (reached-over book s r u (z .0) _ (mark-on m (r .token) t) w (asked-over book s (is m) r (z .0) _ (z .2 ∙ turns (r .token) k) t)))
 
         pub partly-turn-missed : (p q r : Stand) (n place : ℕ) → Partly p q (λ k. start (frame ∷ k)) → ReadExpr book inner s q r e → Missed (is m) s r n place → RefusedExpr book names s p n place
         partly-turn-missed p q r n place x y u k h =
             let z = inner-state p q r e x y k h in
-            reached-wrong book s p r (start k) (z .0) n place (z .1) (missed-wrong book s (is m) r (z .0) _ n place (z .2 ∙ turns (r .token) k) u)
+            reached-wrong book s p r (start k) (z .0) n place (z .1) (missed-wrong book s (is m) (mark-on m) r (z .0) _ n place (z .2 ∙ turns (r .token) k) u)

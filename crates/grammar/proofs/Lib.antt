@@ -7,3 +7,4 @@ pub mod Walking
 pub mod Classes
 pub mod Binders
 pub mod Verdicts
+pub mod Once

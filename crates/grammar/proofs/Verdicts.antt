@@ -6,7 +6,7 @@ use mathlib.Core.Path.{_≡_, refl, sym, _∙_, ap, subst}
 use lib.ListN.{length}
 use Prim.Native.Nat.{ℕ, _≤_, _<_}
 use Rattle.syntax.specs.Tree.{Tree}
-use Rattle.grammar.specs.Token.{Name, Token, end, numeral}
+use Rattle.grammar.specs.Token.{Name, Token, mark, name, numeral, end}
 use Rattle.grammar.specs.Spelling.{fit}
 use Rattle.grammar.specs.Reading.{Next, NoNext}
 use Rattle.grammar.specs.Grammar.{Expr}
@@ -20,6 +20,12 @@ use Rattle.grammar.specs.Verdict.{Front, none-yet, and-next, Sofar, Means, Out
 use Rattle.grammar.proofs.Completeness.{run-snoc}
 use Rattle.grammar.proofs.Judging.{begins-bound, stuck-begins, goes-begins, unknown-begins, accepted-sentence}
 
+end-is : (t : Token) → is-end t ≡ true → t ≡ end
+end-is (mark m) h = absurd (true≢false (sym h))
+end-is (name x) h = absurd (true≢false (sym h))
+end-is (numeral z) h = absurd (true≢false (sym h))
+end-is end h = refl
+
 -- ── the front of a text ──
 
 -- what stands before a stand, whose own token is the next one
@@ -31,9 +37,9 @@ pub record Before (s : List ℕ) (ts : List Token) (p : Stand) : Type 0 where
 
 before-passes : (s : List ℕ) {p q : Stand} {us : List Token} (ts : List Token) → Passes s p us q → Before s ts p → Before s (ts ++ us) q
 before-passes s {p} ts here b = subst (λ l. Before s l p) (sym (append-nil ts)) b
-before-passes s ts (over {p} {q} {r} {ts = us} w ps) b =
+before-passes s ts (over {p} {q} {r} {ts = us} o w ps) b =
     subst (λ l. Before s l r) (append-assoc ts (p .token ∷ []) us)
-    (before-passes s (ts ++ p .token ∷ []) ps (record { to = p .stop; front = and-next (b .front) (b .next) (b .in-range); next = w .0; in-range = w .1 }))
+    (before-passes s (ts ++ p .token ∷ []) ps (record { to = p .stop; front = and-next (b .front) (b .next) (b .in-range) o; next = w .0; in-range = w .1 }))
 
 module _ (book : List Name) (s : List ℕ) (short : length s ≤ 4096) (room : ℕ) where
   sofar : (ts : List Token) (to : ℕ) (a : State) → Front s ts to → run in-force book (start []) ts ≡ go a → Sofar book s ts to
@@ -44,8 +50,8 @@ module _ (book : List Name) (s : List ℕ) (short : length s ≤ 4096) (room : �
   unread-verdict ts to n place f (no-range x y) = verdict.out-of-range f x y
 
   wrong-verdict : (ts : List Token) (p : Stand) (a : State) (n place : ℕ) → Before s ts p → run in-force book (start []) ts ≡ go a → Wrong book s p a n place → Verdict book s room (refused n place)
-  wrong-verdict ts p a n place b h (unread {a′ = a′} x u) =
-      unread-verdict (ts ++ p .token ∷ []) (p .stop) n place (sofar (ts ++ p .token ∷ []) (p .stop) a′ (and-next (b .front) (b .next) (b .in-range)) (run-snoc in-force book (start []) ts (p .token) h ∙ x)) u
+  wrong-verdict ts p a n place b h (unread {a′ = a′} o x u) =
+      unread-verdict (ts ++ p .token ∷ []) (p .stop) n place (sofar (ts ++ p .token ∷ []) (p .stop) a′ (and-next (b .front) (b .next) (b .in-range) o) (run-snoc in-force book (start []) ts (p .token) h ∙ x)) u
   wrong-verdict ts p a n place b h (no-sentence x) = verdict.unexpected (sofar ts (b .to) a (b .front) h) (b .next) (b .in-range) (stuck-begins book ts a (p .token) h x)
   wrong-verdict ts p a n place b h (no-name {a′} x y) =
       verdict.unknown (sofar ts (b .to) a (b .front) h) (b .next) (b .in-range) (goes-begins book ts a a′ (p .token) h y) (unknown-begins book ts a (p .token) h x)
@@ -73,12 +79,16 @@ module _ (book : List Name) (s : List ℕ) (short : length s ≤ 4096) (room : �
       let y = x .1 [] refl in
       let b = before-passes s [] (y .1 .1) (first p q z w) in
       let ts = y .1 .0 in
-      let done : run in-force book (start []) (ts ++ r .token ∷ []) ≡ go (accepted e) = run-snoc in-force book (start []) ts (r .token) (y .1 .2) ∙ y .2 ∙ ap (λ c. cond c (go (accepted e)) stuck) h in
+      let it : r .token ≡ end = end-is (r .token) h in
+      let done : run in-force book (start []) (ts ++ end ∷ []) ≡ go (accepted e) = ap (λ x. run in-force book (start []) (ts ++ x ∷ [])) (sym it) ∙ run-snoc in-force book (start []) ts (r .token) (y .1 .2) ∙ y .2 ∙ ap (λ c. cond c (go (accepted e)) stuck) h in
       record {
-        tokens = ts ++ r .token ∷ [];
-        to = r .stop;
-        sofar = sofar (ts ++ r .token ∷ []) (r .stop) (accepted e) (and-next (b .front) (b .next) (b .in-range)) done;
+        tokens = ts;
+        to = b .to;
+        sofar = sofar ts (b .to) (y .0) (b .front) (y .1 .2);
         expr = e;
-        sentence = accepted-sentence book (ts ++ r .token ∷ []) e done;
+        place = r .place;
+        stop = r .stop;
+        ends = subst (λ x. Next s (b .to) x (r .place) (r .stop)) it (b .next);
+        sentence = accepted-sentence book (ts ++ end ∷ []) e done;
         resolves = m;
       }

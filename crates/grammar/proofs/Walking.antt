@@ -96,23 +96,37 @@ went-current s p q w =
 
 pub passes-current : (s : List ℕ) {p q : Stand} {ts : List Token} → Passes s p ts q → Current s p → Current s q × (p .place ≤ q .place)
 passes-current s here c = (c, omega arith)
-passes-current s (over {p} {q} w ps) c = let a = went-current s p q w in let r = passes-current s ps (a .0) in (r .0, omega (arith, c .forward, a .1, r .1))
+passes-current s (over {p} {q} o w ps) c = let a = went-current s p q w in let r = passes-current s ps (a .0) in (r .0, omega (arith, c .forward, a .1, r .1))
 
 pub passes-++ : (s : List ℕ) {p q r : Stand} {ts us : List Token} → Passes s p ts q → Passes s q us r → Passes s p (ts ++ us) r
 passes-++ s here qs = qs
-passes-++ s (over w ps) qs = over w (passes-++ s ps qs)
+passes-++ s (over o w ps) qs = over o w (passes-++ s ps qs)
 
 pub through-++ : (s : List ℕ) (p q r : Stand) → Through s p q → Through s q r → Through s p r
 through-++ s p q r x y = (x .0 ++ y .0, passes-++ s (x .1) (y .1))
 
-pub through-one : (s : List ℕ) (p q : Stand) → Went s p q → Through s p q
-through-one s p q w = (p .token ∷ [], over w here)
+pub through-one : (s : List ℕ) (p q : Stand) → is-end (p .token) ≡ false → Went s p q → Through s p q
+through-one s p q o w = (p .token ∷ [], over o w here)
 
 pub through-current : (s : List ℕ) (p q : Stand) → Through s p q → Current s p → Current s q × (p .place ≤ q .place)
 through-current s p q t c = passes-current s (t .1) c
 
-pub passes-one : (s : List ℕ) (p q : Stand) → Went s p q → Passes s p (p .token ∷ []) q
-passes-one s p q w = over w here
+pub passes-one : (s : List ℕ) (p q : Stand) → is-end (p .token) ≡ false → Went s p q → Passes s p (p .token ∷ []) q
+passes-one s p q o w = over o w here
+
+-- ── tokens that are not the end ──
+
+pub mark-on : (m : Mark) (t : Token) → is m t ≡ true → is-end t ≡ false
+mark-on m (mark n) h = refl
+mark-on m (name x) h = refl
+mark-on m (numeral z) h = refl
+mark-on m end h = absurd (true≢false (sym h))
+
+pub name-on : (t : Token) → is-name t ≡ true → is-end t ≡ false
+name-on (mark n) h = refl
+name-on (name x) h = refl
+name-on (numeral z) h = refl
+name-on end h = absurd (true≢false (sym h))
 
 -- ── reaching a state ──
 
@@ -120,8 +134,8 @@ module _ (book : List Name) (s : List ℕ) where
   pub reached-here : (p : Stand) (a : State) → Reached book s p a p a
   reached-here p a = ([], here, refl)
 
-  pub reached-over : (p q : Stand) (a b : State) → Went s p q → step in-force book a (p .token) ≡ go b → Reached book s p a q b
-  reached-over p q a b w h = (p .token ∷ [], passes-one s p q w, ap (λ o. and-then o go) h)
+  pub reached-over : (p q : Stand) (a b : State) → is-end (p .token) ≡ false → Went s p q → step in-force book a (p .token) ≡ go b → Reached book s p a q b
+  reached-over p q a b o w h = (p .token ∷ [], passes-one s p q o w, ap (λ o. and-then o go) h)
 
   pub reached-++ : (p q r : Stand) (a b c : State) → Reached book s p a q b → Reached book s q b r c → Reached book s p a r c
   reached-++ p q r a b c x y =
@@ -138,13 +152,13 @@ module _ (book : List Name) (s : List ℕ) where
   pub asked-over : (asked : Token → Bool) (p : Stand) (a b : State) → step in-force book a (p .token) ≡ cond (asked (p .token)) (go b) stuck → asked (p .token) ≡ true → step in-force book a (p .token) ≡ go b
   asked-over asked p a b h e = h ∙ ap (λ x. cond x (go b) stuck) e
 
-  pub missed-wrong : (asked : Token → Bool) (p : Stand) (a b : State) (n place : ℕ) → step in-force book a (p .token) ≡ cond (asked (p .token)) (go b) stuck → Missed asked s p n place → Wrong book s p a n place
-  missed-wrong asked p a b n place h m =
+  pub missed-wrong : (asked : Token → Bool) → ((t : Token) → asked t ≡ true → is-end t ≡ false) → (p : Stand) (a b : State) (n place : ℕ) → step in-force book a (p .token) ≡ cond (asked (p .token)) (go b) stuck → Missed asked s p n place → Wrong book s p a n place
+  missed-wrong asked on p a b n place h m =
       ⊎-elim
       (λ (x : (asked (p .token) ≡ false) × (n ≡ 55) × (place ≡ p .place)).
         subst (λ i. Wrong book s p a i place) (sym (x .1)) (subst (Wrong book s p a 55) (sym (x .2)) (no-sentence (h ∙ ap (λ y. cond y (go b) stuck) (x .0)))))
-      (λ (x : (asked (p .token) ≡ true) × Unread s (p .stop) n place). unread (asked-over asked p a b h (x .0)) (x .1))
+      (λ (x : (asked (p .token) ≡ true) × Unread s (p .stop) n place). unread (on (p .token) (x .0)) (asked-over asked p a b h (x .0)) (x .1))
       m
 
-  pub unread-refuses : (p : Stand) (a b : State) (n place : ℕ) → step in-force book a (p .token) ≡ go b → Unread s (p .stop) n place → Refuses book s p a n place
-  unread-refuses p a b n place h u = ([], p, a, here, refl, unread h u)
+  pub unread-refuses : (p : Stand) (a b : State) (n place : ℕ) → is-end (p .token) ≡ false → step in-force book a (p .token) ≡ go b → Unread s (p .stop) n place → Refuses book s p a n place
+  unread-refuses p a b n place o h u = ([], p, a, here, refl, unread o h u)

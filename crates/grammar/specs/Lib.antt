@@ -8,3 +8,4 @@ pub mod Automaton
 pub mod Walking
 pub mod Classes
 pub mod Verdict
+pub mod Laws

@@ -8,17 +8,18 @@ use lib.ListN.{length}
 use Prim.Native.Nat.{ℕ, _≤_, _<_}
 use Rattle.syntax.specs.Tree.{Tree, nodes}
 use Rattle.syntax.specs.Record.{record-of}
-use Rattle.grammar.specs.Token.{Name, Token, numeral}
+use Rattle.grammar.specs.Token.{Name, Token, numeral, end}
 use Rattle.grammar.specs.Spelling.{in-range, fit}
 use Rattle.grammar.specs.Reading.{Next, NoNext}
 use Rattle.grammar.specs.Grammar.{Expr}
 use Rattle.grammar.specs.Names.{resolved}
+use Rattle.grammar.specs.Automaton.{is-end}
 use Rattle.grammar.specs.Sentence.{Sentence, Begins, BeginsBound}
 
--- the first tokens of a text, all in range, and where the last of them stops
+-- the first tokens of a text, all in range and none the end, and where the last of them stops
 pub data Front (s : List ℕ) : List Token → ℕ → Type 0 where
   none-yet : Front s [] 0
-  and-next : {ts : List Token} {to place stop : ℕ} {t : Token} → Front s ts to → Next s to t place stop → fit t ≡ true → Front s (ts ++ t ∷ []) stop
+  and-next : {ts : List Token} {to place stop : ℕ} {t : Token} → Front s ts to → Next s to t place stop → fit t ≡ true → is-end t ≡ false → Front s (ts ++ t ∷ []) stop
 
 -- the first tokens of a text, and no question about them got a no
 pub record Sofar (book : List Name) (s : List ℕ) (ts : List Token) (to : ℕ) : Type 0 where
@@ -26,13 +27,16 @@ pub record Sofar (book : List Name) (s : List ℕ) (ts : List Token) (to : ℕ) 
   pub front : Front s ts to
   pub begins : BeginsBound book ts
 
--- the tree that a text stands for: its tokens derive a tree in which every used name is in force
+-- the tree that a text stands for: its tokens, and then the end, are a sentence whose used names are all in force
 pub record Means (book : List Name) (s : List ℕ) (t : Tree) : Type 0 where
   pub tokens : List Token
   pub to : ℕ
   pub sofar : Sofar book s tokens to
   pub expr : Expr
-  pub sentence : Sentence tokens expr
+  pub place : ℕ
+  pub stop : ℕ
+  pub ends : Next s to end place stop
+  pub sentence : Sentence (tokens ++ end ∷ []) expr
   pub resolves : resolved book expr ≡ some t
 
 pub data Outcome : Type 0 where

@@ -31,10 +31,10 @@ pub record Current (s : List ℕ) (p : Stand) : Type 0 where
 abbrev pub Went : List ℕ → Stand → Stand → Type 0
 Went s p q = Next s (p .stop) (q .token) (q .place) (q .stop) × (fit (q .token) ≡ true)
 
--- over these tokens, each in range, from one stand to another
+-- over these tokens, each in range and none the end, from one stand to another
 pub data Passes (s : List ℕ) : Stand → List Token → Stand → Type 0 where
   here : {p : Stand} → Passes s p [] p
-  over : {p q r : Stand} {ts : List Token} → Went s p q → Passes s q ts r → Passes s p (p .token ∷ ts) r
+  over : {p q r : Stand} {ts : List Token} → is-end (p .token) ≡ false → Went s p q → Passes s q ts r → Passes s p (p .token ∷ ts) r
 
 -- the next token after a stop is refused for what it is: no token (52), or a number out of range (54)
 pub data Unread (s : List ℕ) (stop : ℕ) : ℕ → ℕ → Type 0 where
@@ -52,7 +52,7 @@ Reached book s p a q b = (ts : List Token) × Passes s p ts q × (run in-force b
 -- The token of a stand is refused in a state, or the one after it is refused for what it is. The
 -- numbers: 55 where no sentence goes on, 57 where a name is not in force.
 pub data Wrong (book : List Name) (s : List ℕ) (p : Stand) (a : State) : ℕ → ℕ → Type 0 where
-  unread : {n q : ℕ} {a′ : State} → step in-force book a (p .token) ≡ go a′ → Unread s (p .stop) n q → Wrong book s p a n q
+  unread : {n q : ℕ} {a′ : State} → is-end (p .token) ≡ false → step in-force book a (p .token) ≡ go a′ → Unread s (p .stop) n q → Wrong book s p a n q
   no-sentence : step in-force book a (p .token) ≡ stuck → Wrong book s p a 55 (p .place)
   no-name : {a′ : State} → step in-force book a (p .token) ≡ unknown → step any book a (p .token) ≡ go a′ → Wrong book s p a 57 (p .place)
 

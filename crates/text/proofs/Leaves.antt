@@ -9,6 +9,7 @@ use Prim.Native.Nat.{ℕ}
 use Rattle.syntax.specs.Tree.{Tree}
 use Rattle.grammar.specs.declared.Mark.{Mark}
 use Rattle.grammar.specs.declared.Mark.the-variants.{Fun, Let, In, If, Then, Else, True, False, Arrow, Equals, AtMost, Plus, Open, Close}
+use Rattle.grammar.specs.Automaton.{is-end}
 use Rattle.grammar.specs.Grammar.{Expr, literal, boolean, used}
 use Rattle.grammar.specs.Names.{variable-at, resolved, distance}
 use Rattle.grammar.specs.Token.{Name, Token, mark, name, numeral, end}
@@ -24,6 +25,13 @@ none-some e h = let z : _≡_ {A = ℕ} 0 1 = cc in omega arith
 
 same-expr : (e f : Expr) → some e ≡ some f → e ≡ f
 same-expr e f h = cc
+
+-- the end is no atom
+pub leaf-on : (t : Token) (e : Expr) → leaf t ≡ some e → is-end t ≡ false
+leaf-on (mark m) e h = refl
+leaf-on (name x) e h = refl
+leaf-on (numeral z) e h = refl
+leaf-on end e h = absurd (none-some e h)
 
 module _ (book names : List Name) (s : List ℕ) where
   leaf-mark : (m : Mark) (e : Expr) → leaf (mark m) ≡ some e → Leaf book names s (mark m) e

@@ -13,7 +13,7 @@ use Rattle.grammar.specs.Automaton.{is-end, starts-atom}
 use Rattle.grammar.specs.Reading.{part}
 use Rattle.grammar.specs.Token.{Name, Token, mark, name, numeral, end, is}
 use Rattle.grammar.specs.Walking.{Stand, Current, Went, Through, is-name}
-use Rattle.grammar.proofs.Walking.{went-current, through-current, through-one}
+use Rattle.grammar.proofs.Walking.{went-current, through-current}
 use Rattle.text.specs.declared.parser.Parser.{Parser}
 use Rattle.text.specs.declared.scope.Part.{Part}
 use Rattle.text.specs.declared.scope.Scope.{Scope}
@@ -103,18 +103,6 @@ module _ (s : List ℕ) (a b : Scope) (x : Part) (counted : b .count ≡ a .coun
   }
 
 -- ── tokens that are not the end ──
-
-pub mark-on : (m : Mark) (t : Token) → is m t ≡ true → is-end t ≡ false
-mark-on m (mark n) h = refl
-mark-on m (name x) h = refl
-mark-on m (numeral z) h = refl
-mark-on m end h = absurd (true≢false (sym h))
-
-pub name-on : (t : Token) → is-name t ≡ true → is-end t ≡ false
-name-on (mark n) h = refl
-name-on (name x) h = refl
-name-on (numeral z) h = refl
-name-on end h = absurd (true≢false (sym h))
 
 pub atom-on : (t : Token) → starts-atom t ≡ true → is-end t ≡ false
 atom-on (mark n) h = refl

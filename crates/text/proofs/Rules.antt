@@ -18,7 +18,7 @@ use Rattle.grammar.specs.Token as plain
 use Rattle.grammar.specs.Token.{Name, is}
 use Rattle.grammar.specs.Walking.{Stand, Current, Went, Through, Unread, Missed, is-name}
 use Rattle.grammar.proofs.Soundness.{is-mark}
-use Rattle.grammar.proofs.Walking.{went-current, through-one, through-++}
+use Rattle.grammar.proofs.Walking.{went-current, through-one, through-++, mark-on}
 use Rattle.grammar.proofs.Binders as binders
 use Rattle.grammar.proofs.Classes as classes
 use Rattle.std.specs.declared.result.Result.{Result}
@@ -34,7 +34,7 @@ use Rattle.text.specs.Faults.{number, place}
 use Rattle.text.specs.Nodes.{Pushed, Grown}
 use Rattle.text.specs.Parsing.{at, Advanced, Passed, Named, Parsed, ReadsExpr, ReadsBody, ReadsComparison, ReadsSum, ReadsApplication, ReadsAtom, Single, leaf, One}
 use Rattle.text.proofs.Growing.{grown-leaf, grown-function, grown-application, grown-let, grown-sum, grown-at-most, grown-if}
-use Rattle.text.proofs.Leaves.{leaf-fits}
+use Rattle.text.proofs.Leaves.{leaf-fits, leaf-on}
 use Rattle.text.proofs.Turns.{Read, ApplicationSoFar, SumSoFar}
 
 -- the exit of a `?`
@@ -193,7 +193,7 @@ module _ (s : List ℕ) (B O : List Name) where
 
   pub sum-again : (first now r z : Parser) (T : Table) (root l a t : ℕ) → SumSoFar s B O first root now l → is Plus (at now .token) ≡ true → Advanced s now r (Ok tt) → ReadsApplication s B O r z (Ok a) → Pushed (z .table) T (Sum l a) t → SumSoFar s B O first root (onto z T) t
   sum-again first now r z T root l a t o m w b g =
-      (through-++ s (at first) (at now) (at z) (o .0) (through-++ s (at now) (at r) (at z) (through-one s (at now) (at r) (w .0)) (b .2 .0 .0)), λ h. b .2 .1, λ p before x.
+      (through-++ s (at first) (at now) (at z) (o .0) (through-++ s (at now) (at r) (at z) (through-one s (at now) (at r) (mark-on Plus (at now .token) m) (w .0)) (b .2 .0 .0)), λ h. b .2 .1, λ p before x.
         let y = o .2 p before x in
         let read = classes.sum-more B (O ++ B) s p (at now) (at r) (at z) (y .0) (b .0) (y .2) (is-mark Plus (at now .token) m) (w .0) (b .2 .0) in
         (G.plus (y .0) (b .0), sum (y .1) (b .1), read, two-some sum _ _ (y .1) (b .1) (y .3) (b .3), grown-sum before (now .table) (z .table) T l a t (y .1) (b .1) (y .4) (subst (λ k. Grown k (z .table) (b .1) a) (w .1) (b .4)) g))
@@ -254,8 +254,8 @@ module _ (s : List ℕ) (B O : List Name) where
 
   module _ (p : Parser) (n : Node) (l : Single (O ++ B) (at p) (Ok n)) where
     pub leaf-unread : (i j : ℕ) → Unread s (at p .stop) i j → RefusedAtom B (O ++ B) s (at p) i j
-    leaf-unread i j u = classes.atom-leaf-unread B (O ++ B) s (at p) (l .0) i j (leaf-fits B (O ++ B) s (at p .token) (l .0) (l .1) (l .2) (l .3)) u
+    leaf-unread i j u = classes.atom-leaf-unread B (O ++ B) s (at p) (l .0) i j (leaf-on (at p .token) (l .0) (l .2)) (leaf-fits B (O ++ B) s (at p .token) (l .0) (l .1) (l .2) (l .3)) u
 
     pub leaf-done : (q : Parser) (T : Table) (root : ℕ) → Advanced s p q (Ok tt) → Pushed (q .table) T n root → ReadsAtom s B O p (onto q T) (Ok root)
     leaf-done q T root w g =
-        (l .0, l .1, classes.atom-leaf B (O ++ B) s (at p) (at q) (l .0) (leaf-fits B (O ++ B) s (at p .token) (l .0) (l .1) (l .2) (l .3)) (w .0), l .3, grown-leaf (p .table) T n root (l .1) (subst (λ k. Pushed k T n root) (w .1) g) (l .4))
+        (l .0, l .1, classes.atom-leaf B (O ++ B) s (at p) (at q) (l .0) (leaf-on (at p .token) (l .0) (l .2)) (leaf-fits B (O ++ B) s (at p .token) (l .0) (l .1) (l .2) (l .3)) (w .0), l .3, grown-leaf (p .table) T n root (l .1) (subst (λ k. Pushed k T n root) (w .1) g) (l .4))

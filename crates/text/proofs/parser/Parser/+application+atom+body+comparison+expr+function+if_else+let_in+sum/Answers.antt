@@ -8,14 +8,14 @@ use Rattle.grammar.specs.Automaton.{is-end}
 use Rattle.grammar.specs.Classes.{RefusedAtom, RefusedApp, RefusedSum, RefusedExpr}
 use Rattle.grammar.specs.Reading.{part}
 use Rattle.grammar.proofs.Binders.{fun-unread, fun-unnamed, fun-unsigned, let-unread, let-unnamed, let-unsigned, let-bound-refused, if-unread, if-condition-refused}
-use Rattle.grammar.proofs.Walking.{through-++}
+use Rattle.grammar.proofs.Walking.{through-++, mark-on, name-on}
 use Rattle.std.specs.declared.result.Result.the-variants.{Ok}
 use Rattle.text.specs.declared.fault.CompileFault.the-variants.{Lex}
 use Rattle.text.specs.Books.{names}
 use Rattle.text.specs.Faults.{number, place}
 use Rattle.text.specs.Parsing.{at, ReadsExpr, ReadsBody, ReadsSum, ReadsApplication, ReadsAtom}
 use Rattle.text.specs.Scopes.{open-names}
-use Rattle.text.proofs.Readiness.{restored-refl, restored-trans, restored-names, ready-on, ready-after, further, not-back, inside-text, put-names, put-ready, put-restored, mark-on, name-on, atom-on, atom-further}
+use Rattle.text.proofs.Readiness.{restored-refl, restored-trans, restored-names, ready-on, ready-after, further, not-back, inside-text, put-names, put-ready, put-restored, atom-further}
 use Rattle.text.proofs.Rules.{exit-expr, exit-comparison, exit-sum, exit-application, exit-atom, fun-body-refused, fun-done, let-no-in, let-body-refused, let-done, if-no-then, if-then-refused, if-no-else, if-else-refused, if-done, sum-alone, at-most-unread, at-most-refused, at-most-done, sum-holds, sum-done, plus-unread, plus-refused, sum-again, application-holds, application-done, argument-refused, application-again, open-unread, open-refused, open-missed, open-done, leaf-refused, leaf-unread, leaf-done}
 use Rattle.text.proofs.Turns.{ApplicationSoFar, SumSoFar}
 use Rattle.text.proofs.parser.Parser.+application+atom+body+comparison+expr+function+if_else+let_in+sum.Needs as need
