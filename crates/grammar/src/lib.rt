@@ -7,6 +7,23 @@
 //! Proved here: a token list has at most one tree, and judging the tokens one at a time decides
 //! whether they begin a sentence.
 
+ghost use Rattle.grammar.specs.Laws.{One-tree, One-verdict};
+
+/// A token list has at most one tree. Does nothing: its contract is the law.
+pub fn one_tree() -> bool
+    ensures { λ _. ⌜ One-tree ⌝ }
+{
+    true
+}
+
+/// A text has at most one verdict, so whoever answers by the verdict answers in one way only. Does
+/// nothing: its contract is the law.
+pub fn one_verdict() -> bool
+    ensures { λ _. ⌜ One-verdict ⌝ }
+{
+    true
+}
+
 /// A keyword or a sign: a token that is spelled in one way only.
 #[derive(Clone, Copy, Debug, PartialEq, Eq)]
 pub enum Mark {
