@@ -7,6 +7,7 @@ use lib.Dec.{leb, ltb}
 use lib.ListN.{length, getD, replicate}
 use Rattle.std.specs.declared.option.Option.{Option}
 use Rattle.std.specs.declared.option.Option.the-variants.{Some, None}
+use Rattle.store.specs.Room.{counted}
 use Rattle.linked.specs.declared.cell.Cell.{Cell}
 
 module _ {T : Type 0} where
@@ -32,9 +33,8 @@ module _ {T : Type 0} where
   abbrev pub lists-of : T → List (Cell T) → ℕ → ℕ → Option (List T)
   lists-of blank cells made h = cond (leb h (min made (length cells))) (Some (walk blank cells h h)) None
 
-  -- no cell beyond the first 65,535 counts
   abbrev pub whole-of : List (Cell T) → ℕ
-  whole-of cells = min 65535 (length cells)
+  whole-of cells = counted (length cells)
 
   abbrev pub room-of : List (Cell T) → ℕ → ℕ
   room-of cells made = whole-of cells - made

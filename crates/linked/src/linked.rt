@@ -2,7 +2,7 @@
 ghost use denote.Ref.{now};
 ghost use mathlib.Core.Path.{_≡_};
 ghost use mathlib.Core.List.{[]};
-ghost use Prim.Native.Nat.{_≤_, min};
+ghost use Prim.Native.Nat.{_≤_};
 ghost use lib.ListN.{length};
 ghost use Rattle.store.specs.Lists.{Cleared, Found};
 ghost use Rattle.linked.specs.Walk.{walk, blanks, lists-of, whole-of, room-of};
@@ -11,9 +11,7 @@ use store::blank::Blank;
 use store::contract::BareStore;
 use store::contract::Store;
 use store::fault::StoreFault;
-
-/// The most cells that count.
-const MOST: usize = 65_535;
+use store::room::counted;
 
 /// Lists in lent cells. Handles 1 to `made` each name the cell before their own number.
 #[derive(Drop)]
@@ -29,13 +27,6 @@ fn wipe<T: Blank + Copy>(cells: &mut [Cell<T>])
     for i in 0..cells.len() {
         cells[i] = Cell::blank();
     }
-}
-
-/// How many cells count.
-fn counted(count: usize) -> u32
-    ensures { λ r. ⌜ r ≡ min 65535 count ⌝ }
-{
-    count.min(MOST) as u32
 }
 
 impl<'a, T: Blank + Copy> LinkedStore<'a, T> {

@@ -9,3 +9,4 @@
 pub mod blank;
 pub mod contract;
 pub mod fault;
+pub mod room;
