@@ -6,8 +6,8 @@ use store::blank::Blank;
 /// An element and the handle of the list below it.
 #[derive(Clone, Copy)]
 pub struct Cell<T> {
-    pub element: T,
-    pub below: u32,
+    pub(crate) element: T,
+    pub(crate) below: u32,
 }
 
 impl<T: Blank> Cell<T> {
