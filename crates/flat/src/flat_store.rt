@@ -80,6 +80,12 @@ impl<'a, T: Blank + Copy> FlatStore<'a, T> {
     {
         span(self.slots, self.used, handle)
     }
+
+    fn room(&self) -> u32
+        ensures { λ r. ⌜ r ≡ room-of (now (now (self .entry) .slots)) (now (self .entry) .used) ⌝ }
+    {
+        counted(self.slots.len()).saturating_sub(self.used)
+    }
 }
 
 pub impl<'a, T: Blank + Copy> Store for FlatStore<'a, T> as FlatStoreStore {
@@ -108,8 +114,7 @@ pub impl<'a, T: Blank + Copy> Store for FlatStore<'a, T> as FlatStoreStore {
         let Some(length) = self.span(handle) else {
             return Err(StoreFault::NoList);
         };
-        let room = counted(self.slots.len()).saturating_sub(self.used);
-        if length as usize + 2 > room as usize {
+        if length as usize + 2 > self.room() as usize {
             return Err(StoreFault::NoRoom);
         }
         let start = self.used as usize;
@@ -130,7 +135,7 @@ pub impl<'a, T: Blank + Copy> Store for FlatStore<'a, T> as FlatStoreStore {
     }
 
     fn free(&self) -> u32 {
-        counted(self.slots.len()).saturating_sub(self.used)
+        self.room()
     }
 }
 

@@ -2,7 +2,8 @@
 ghost use denote.Ref.{now};
 ghost use mathlib.Core.Path.{_≡_};
 ghost use mathlib.Core.List.{[]};
-ghost use Prim.Native.Nat.{_≤_};
+ghost use Prim.Native.Nat.{_≤_, min};
+ghost use lib.Dec.{leb};
 ghost use lib.ListN.{length};
 ghost use Rattle.store.specs.Lists.{Cleared, Found};
 ghost use Rattle.linked.specs.Walk.{walk, blanks, lists-of, whole-of, room-of};
@@ -38,6 +39,18 @@ impl<'a, T: Blank + Copy> LinkedStore<'a, T> {
         wipe(cells);
         LinkedStore { cells, made: 0 }
     }
+
+    fn has_list(&self, handle: u32) -> bool
+        ensures { λ r. ⌜ r ≡ leb handle (min (now (self .entry) .made) (length (now (now (self .entry) .cells)))) ⌝ }
+    {
+        handle <= self.made && handle as usize <= self.cells.len()
+    }
+
+    fn room(&self) -> u32
+        ensures { λ r. ⌜ r ≡ room-of (now (now (self .entry) .cells)) (now (self .entry) .made) ⌝ }
+    {
+        counted(self.cells.len()).saturating_sub(self.made)
+    }
 }
 
 pub impl<'a, T: Blank + Copy> Store for LinkedStore<'a, T> as LinkedStoreStore {
@@ -63,10 +76,10 @@ pub impl<'a, T: Blank + Copy> Store for LinkedStore<'a, T> as LinkedStoreStore {
     }
 
     fn extend(&mut self, handle: u32, elem: T) -> Result<u32, StoreFault> {
-        if handle > self.made || handle as usize > self.cells.len() {
+        if !self.has_list(handle) {
             return Err(StoreFault::NoList);
         }
-        if self.made >= counted(self.cells.len()) {
+        if self.room() < 1 {
             return Err(StoreFault::NoRoom);
         }
         self.cells[self.made as usize] = Cell {
@@ -78,14 +91,14 @@ pub impl<'a, T: Blank + Copy> Store for LinkedStore<'a, T> as LinkedStoreStore {
     }
 
     fn look(&self, handle: u32, index: u32) -> Result<T, StoreFault> {
-        if handle > self.made || handle as usize > self.cells.len() {
+        if !self.has_list(handle) {
             return Err(StoreFault::NoList);
         }
         find(self.cells, handle, index)
     }
 
     fn free(&self) -> u32 {
-        counted(self.cells.len()).saturating_sub(self.made)
+        self.room()
     }
 }
 

@@ -14,7 +14,7 @@ pub impl Blank for u32 as U32Blank {
     ghost unwritten = { 0 };
 
     fn blank() -> u32 {
-        0
+        0u32
     }
 }
 
@@ -22,7 +22,7 @@ pub impl Blank for u16 as U16Blank {
     ghost unwritten = { 0 };
 
     fn blank() -> u16 {
-        0
+        0u16
     }
 }
 
@@ -30,6 +30,6 @@ pub impl Blank for i32 as I32Blank {
     ghost unwritten = { pos 0 };
 
     fn blank() -> i32 {
-        0
+        0i32
     }
 }
