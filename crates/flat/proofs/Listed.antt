@@ -13,13 +13,12 @@ use Rattle.std.proofs.shelf.Tests.{ltb-true, le-leb, lt-leb, lt-ltb, ne-eqb, eq
 use Rattle.std.proofs.shelf.Lists.{getD-past}
 use Rattle.std.specs.declared.option.Option.{Option}
 use Rattle.std.specs.declared.option.Option.the-variants.{Some, None}
-use Rattle.std.specs.declared.result.Result.the-variants.{Ok, Err}
-use Rattle.store.specs.declared.fault.StoreFault.the-variants.{NoRoom, Beyond}
-use Rattle.store.specs.Lists.{Extended, Found, Looked}
+use Rattle.std.specs.declared.result.Result.the-variants.{Ok}
+use Rattle.store.specs.Lists.{Extended, Looked}
 use Rattle.store.proofs.Told.{some-none, some-some, ok-err}
 use Rattle.flat.specs.declared.slot.Slot.{Slot}
 use Rattle.flat.specs.declared.slot.Slot.the-variants.{Spare, Element, Ends}
-use Rattle.flat.specs.Spans.{element-of, reads, ending, span-of, list-at, lists-of, whole-of, room-of, cost-of, Placed}
+use Rattle.flat.specs.Spans.{element-of, reads, ending, span-of, list-at, lists-of, whole-of, room-of, cost-of, Placed, Spanned}
 
 module _ {T : Type 0} where
   -- ending: only a slot that ends a list has a count, and the elements fit before it
@@ -94,6 +93,10 @@ module _ {T : Type 0} (blank : T) where
   pub unlisted : (slots : List (Slot T)) (used h : ℕ) → span-of slots used h ≡ None → lists-of blank slots used h ≡ None
   unlisted slots used h e = ap (list-at blank slots h) e
 
+  pub spanned : (slots : List (Slot T)) (used h : ℕ) (o : Option ℕ) → o ≡ span-of slots used h → Spanned (lists-of blank slots used h) o
+  spanned slots used h None is = unlisted slots used h (sym is)
+  spanned slots used h (Some n) is = (reads blank slots (h - 1 - n) n, listed slots used h n (sym is), length-reads slots (h - 1 - n) n)
+
   pub found : (slots : List (Slot T)) (used h n i : ℕ) → span-of slots used h ≡ Some n → i < n
       → Looked (lists-of blank slots used) h i (Ok (element-of blank (getD slots (h - 1 - n + i) Spare)))
   found slots used h n i e less =
@@ -108,33 +111,6 @@ module _ {T : Type 0} (blank : T) where
               beyond = λ past. absurd (omega arith);
               found = λ within. (x, refl, sym (getD-reads slots (h - 1 - n) n i x less) ∙ ap (λ w. getD w i x) same);
             };
-      }
-
-  pub beyond : (slots : List (Slot T)) (used h n i : ℕ) → span-of slots used h ≡ Some n → n ≤ i
-      → Looked (lists-of blank slots used) h i (Err (Beyond n))
-  beyond slots used h n i e more =
-      let old = listed slots used h n e in
-      record {
-        unlisted = λ none. absurd (some-none old none);
-        listed = λ l is.
-            let long : length l ≡ n = ap length (sym (some-some old is)) ∙ length-reads slots (h - 1 - n) n in
-            record {
-              beyond = λ past. ap (λ k. Err (Beyond k)) (sym long);
-              found = λ within. absurd (omega arith);
-            };
-      }
-
-  pub short : (slots : List (Slot T)) (used h n : ℕ) (x : T) → span-of slots used h ≡ Some n → room-of slots used < n + 2
-      → Extended (lists-of blank slots used) (lists-of blank slots used) (room-of slots used) (room-of slots used) cost-of h x (Err NoRoom)
-  short slots used h n x e less =
-      let old = listed slots used h n e in
-      record {
-        unlisted = λ none. absurd (some-none old none);
-        short = λ l _ _. refl;
-        made = λ l is enough.
-            let long : length l ≡ n = ap length (sym (some-some old is)) ∙ length-reads slots (h - 1 - n) n in
-            absurd (omega arith);
-        refused = λ f _. (λ k. refl, refl);
       }
 
   -- what a further list of n + 1 elements does

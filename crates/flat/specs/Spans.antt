@@ -50,6 +50,11 @@ module _ {T : Type 0} where
   abbrev pub room-of : List (Slot T) → ℕ → ℕ
   room-of slots used = whole-of slots - used
 
+-- a list, told by its length
+abbrev pub Spanned : {T : Type 0} → Option (List T) → Option ℕ → Type 0
+Spanned list None = list ≡ None
+Spanned {T} list (Some n) = (l : List T) × (list ≡ Some l) × (length l ≡ n)
+
 -- what a new list writes from slot `start` on: x, the n elements that stand from slot `from` on,
 -- and the slot that ends the list; nothing before it changes
 pub record Placed {T : Type 0} (blank : T) (before after : List (Slot T)) (start from n : ℕ) (x : T) : Type 0 where

@@ -3,10 +3,12 @@ ghost use denote.Ref.{now};
 ghost use mathlib.Core.Path.{_≡_};
 ghost use mathlib.Core.List.{[]};
 ghost use Prim.Native.Nat.{ℕ, _+_, _-_, _≤_, _<_};
-ghost use lib.ListN.{length, getD};
-ghost use Rattle.store.specs.Lists.{Cleared};
+ghost use lib.ListN.{length, getD, set};
+ghost use Rattle.std.specs.declared.option.Option.the-variants.{Some};
+ghost use Rattle.std.specs.declared.result.Result.the-variants.{Ok};
+ghost use Rattle.store.specs.Lists.{Cleared, Extended, Looked};
 ghost use Rattle.flat.specs.declared.slot.Slot.the-variants.{Spare, Element};
-ghost use Rattle.flat.specs.Spans.{spares, element-of, span-of, lists-of, whole-of, room-of, cost-of, Placed};
+ghost use Rattle.flat.specs.Spans.{spares, element-of, span-of, lists-of, whole-of, room-of, cost-of, Placed, Spanned};
 use crate::slot::Slot;
 use store::blank::Blank;
 use store::contract::BareStore;
@@ -54,14 +56,82 @@ fn copy<T: Blank + Copy>(slots: &mut [Slot<T>], from: usize, to: usize, count: u
     }
 }
 
+/// Writes one slot.
+fn put<T: Copy>(slots: &mut [Slot<T>], place: usize, slot: Slot<T>)
+    requires { ⌜ place < length (now slots) ⌝ }
+    ensures { λ _. ⌜ now (slots .exit) ≡ set (now (slots .entry)) place slot ⌝ }
+{
+    slots[place] = slot;
+}
+
 /// Writes a list: an element, a copy of `count` older ones, and the slot that ends it.
 fn place<T: Blank + Copy>(slots: &mut [Slot<T>], start: usize, from: usize, count: u32, element: T)
     requires { ⌜ from + count ≤ start ⌝ ∗ ⌜ start + (count + 2) ≤ length (now slots) ⌝ ∗ ⌜ start + (count + 2) ≤ 65535 ⌝ }
     ensures { λ _. ⌜ Placed (T·Blank .unwritten) (now (slots .entry)) (now (slots .exit)) start from count element ⌝ }
 {
-    slots[start] = Slot::Element(element);
+    put(slots, start, Slot::Element(element));
     copy(slots, from, start + 1, count as usize);
-    slots[start + 1 + count as usize] = Slot::Ends { length: count + 1 };
+    put(
+        slots,
+        start + 1 + count as usize,
+        Slot::Ends { length: count + 1 },
+    );
+}
+
+/// Where the elements of a handle's list begin.
+fn first_slot(handle: u32, length: u32) -> u32
+    requires { ⌜ length < 4294967295 ⌝ }
+    ensures { λ r. ⌜ r ≡ handle - (length + 1) ⌝ }
+{
+    handle.saturating_sub(length + 1)
+}
+
+/// Puts an element before the list of a handle, in the first slots behind the used ones.
+///
+/// What one list more does to the others is shown here, whatever wrote it.
+fn push<T: Blank + Copy>(slots: &mut [Slot<T>], used: u32, handle: u32, length: u32, element: T)
+    requires known { ⌜ span-of (now slots) used handle ≡ Some length ⌝ }
+    requires room { ⌜ cost-of length ≤ room-of (now slots) used ⌝ }
+    ensures { λ _. ⌜ Extended (lists-of (T·Blank .unwritten) (now (slots .entry)) used) (lists-of (T·Blank .unwritten) (now (slots .exit)) (used + (length + 2))) (room-of (now (slots .entry)) used) (room-of (now (slots .exit)) (used + (length + 2))) cost-of handle element (Ok (used + (length + 2))) ⌝ }
+{
+    place(
+        slots,
+        used as usize,
+        first_slot(handle, length) as usize,
+        length,
+        element,
+    );
+}
+
+/// The element at an index below the length of a handle's list.
+fn element_at<T: Blank + Copy>(
+    slots: &[Slot<T>],
+    used: u32,
+    handle: u32,
+    length: u32,
+    index: u32,
+) -> T
+    requires known { ⌜ span-of (now slots) used handle ≡ Some length ⌝ }
+    requires within { ⌜ index < length ⌝ }
+    ensures { λ r. ⌜ Looked (lists-of (T·Blank .unwritten) (now (slots .entry)) used) handle index (Ok r) ⌝ }
+{
+    read(slots, element_slot(handle, length, index) as usize)
+}
+
+/// Where the element at an index of a handle's list stands.
+fn element_slot(handle: u32, length: u32, index: u32) -> u32
+    requires { ⌜ length < handle ⌝ ∗ ⌜ index < length ⌝ }
+    ensures { λ r. ⌜ r ≡ handle - 1 - length + index ⌝ }
+{
+    handle - 1 - length + index
+}
+
+/// The element in a slot.
+fn read<T: Blank + Copy>(slots: &[Slot<T>], place: usize) -> T
+    requires { ⌜ place < length (now slots) ⌝ }
+    ensures { λ r. ⌜ r ≡ element-of (T·Blank .unwritten) (getD (now (slots .entry)) place Spare) ⌝ }
+{
+    slots[place].element()
 }
 
 impl<'a, T: Blank + Copy> FlatStore<'a, T> {
@@ -76,7 +146,8 @@ impl<'a, T: Blank + Copy> FlatStore<'a, T> {
 
     /// The length of a handle's list, where it has one.
     fn span(&self, handle: u32) -> Option<u32>
-        ensures { λ r. ⌜ r ≡ span-of (now (now (self .entry) .slots)) (now (self .entry) .used) handle ⌝ }
+        ensures span { λ r. ⌜ r ≡ span-of (now (now (self .entry) .slots)) (now (self .entry) .used) handle ⌝ }
+        ensures list { λ r. ⌜ Spanned (lists-of (T·Blank .unwritten) (now (now (self .entry) .slots)) (now (self .entry) .used) handle) r ⌝ }
     {
         span(self.slots, self.used, handle)
     }
@@ -117,10 +188,9 @@ pub impl<'a, T: Blank + Copy> Store for FlatStore<'a, T> as FlatStoreStore {
         if length as usize + 2 > self.room() as usize {
             return Err(StoreFault::NoRoom);
         }
-        let start = self.used as usize;
-        let from = handle.saturating_sub(length + 1) as usize;
-        place(self.slots, start, from, length, elem);
-        self.used += length + 2;
+        let used = self.used;
+        push(self.slots, used, handle, length, elem);
+        self.used = used + (length + 2);
         Ok(self.used)
     }
 
@@ -131,20 +201,12 @@ pub impl<'a, T: Blank + Copy> Store for FlatStore<'a, T> as FlatStoreStore {
         if index >= length {
             return Err(StoreFault::Beyond { length });
         }
-        Ok(element_at(self.slots, (handle - 1 - length + index) as usize))
+        Ok(element_at(self.slots, self.used, handle, length, index))
     }
 
     fn free(&self) -> u32 {
         self.room()
     }
-}
-
-/// The element in a slot.
-fn element_at<T: Blank + Copy>(slots: &[Slot<T>], at: usize) -> T
-    requires { ⌜ at < length (now slots) ⌝ }
-    ensures { λ r. ⌜ r ≡ element-of (T·Blank .unwritten) (getD (now (slots .entry)) at Spare) ⌝ }
-{
-    slots[at].element()
 }
 
 pub impl<'a, T: Blank + Copy> BareStore for FlatStore<'a, T> as FlatStoreBareStore {

@@ -2,10 +2,11 @@
 ghost use denote.Ref.{now};
 ghost use mathlib.Core.Path.{_≡_};
 ghost use mathlib.Core.List.{[]};
-ghost use Prim.Native.Nat.{_≤_, min};
+ghost use Prim.Native.Nat.{_+_, _<_, _≤_, min};
 ghost use lib.Dec.{leb};
-ghost use lib.ListN.{length};
-ghost use Rattle.store.specs.Lists.{Cleared, Found};
+ghost use lib.ListN.{length, set};
+ghost use Rattle.std.specs.declared.result.Result.the-variants.{Ok};
+ghost use Rattle.store.specs.Lists.{Cleared, Extended, Found};
 ghost use Rattle.linked.specs.Walk.{walk, blanks, lists-of, whole-of, room-of};
 use crate::cell::Cell;
 use store::blank::Blank;
@@ -28,6 +29,25 @@ fn wipe<T: Blank + Copy>(cells: &mut [Cell<T>])
     for i in 0..cells.len() {
         cells[i] = Cell::blank();
     }
+}
+
+/// Writes one cell.
+fn write<T: Copy>(cells: &mut [Cell<T>], place: usize, element: T, below: u32)
+    requires { ⌜ place < length (now cells) ⌝ }
+    ensures { λ _. ⌜ now (cells .exit) ≡ set (now (cells .entry)) place (record { element = element; below = below }) ⌝ }
+{
+    cells[place] = Cell { element, below };
+}
+
+/// Puts an element before the list of a handle, in the first cell behind the `made` ones.
+///
+/// What one cell more does to the lists is shown here, whatever wrote it.
+fn push<T: Blank + Copy>(cells: &mut [Cell<T>], made: u32, handle: u32, element: T)
+    requires known { ⌜ handle ≤ made ⌝ }
+    requires room { ⌜ 1 ≤ room-of (now cells) made ⌝ }
+    ensures { λ _. ⌜ Extended (lists-of (T·Blank .unwritten) (now (cells .entry)) made) (lists-of (T·Blank .unwritten) (now (cells .exit)) (made + 1)) (room-of (now (cells .entry)) made) (room-of (now (cells .exit)) (made + 1)) (λ _. 1) handle element (Ok (made + 1)) ⌝ }
+{
+    write(cells, made as usize, element, handle);
 }
 
 impl<'a, T: Blank + Copy> LinkedStore<'a, T> {
@@ -82,11 +102,9 @@ pub impl<'a, T: Blank + Copy> Store for LinkedStore<'a, T> as LinkedStoreStore {
         if self.room() < 1 {
             return Err(StoreFault::NoRoom);
         }
-        self.cells[self.made as usize] = Cell {
-            element: elem,
-            below: handle,
-        };
-        self.made += 1;
+        let made = self.made;
+        push(self.cells, made, handle, elem);
+        self.made = made + 1;
         Ok(self.made)
     }
 

@@ -1,8 +1,8 @@
 -- The readings behind every list.
-use Prim.Native.Nat.{ℕ, _+_, _-_, _≤_, _<_}
+use Prim.Native.Nat.{ℕ, _+_, _-_, _≤_, _<_, min}
 use mathlib.Core.Path.{_≡_}
 use mathlib.Core.List.{List, _++_, map}
-use lib.IntN.{ℤ}
+use lib.IntN.{ℤ, pos}
 use lib.ListN.{length, getD, take}
 use Rattle.std.specs.declared.option.Option.{Option}
 use Rattle.std.specs.declared.option.Option.the-variants.{Some, None}
@@ -37,6 +37,11 @@ behind rs lists h = added rs (lists h)
 -- the cost of the list below
 abbrev pub cost-below : List Value → (ℕ → ℕ) → ℕ → ℕ
 cost-below rs cost n = cost (n - length rs)
+
+-- the number at a place among the first `count` numbers, where there is one
+abbrev pub Picked : List ℤ → ℕ → ℕ → Option ℤ → Type 0
+Picked numbers count place None = min count (length numbers) ≤ place
+Picked numbers count place (Some z) = (place < min count (length numbers)) × (z ≡ getD numbers place (pos 0))
 
 -- the answer at an index that lies beyond the n elements below: a reading, or the whole length
 pub record Read (rs : List Value) (n i : ℕ) (r : Result Value StoreFault) : Type 0 where

@@ -2,7 +2,8 @@
 ghost use mathlib.Core.Path.{_≡_};
 ghost use Prim.Native.Nat.{_≤_};
 ghost use lib.ListN.{take};
-ghost use Rattle.readings.specs.Behind.{values-of, as-values, behind, cost-below, Read};
+ghost use Rattle.store.specs.Lists.{Extended, Looked};
+ghost use Rattle.readings.specs.Behind.{values-of, as-values, behind, cost-below, Picked, Read};
 use crate::readings_list::Readings;
 use crate::value::Value;
 use store::contract::BareStore;
@@ -15,19 +16,27 @@ pub struct ReadingsLayer<S> {
     readings: Readings,
 }
 
+/// The number at a place among the first `count`, where there is one.
+fn pick(numbers: &[i32], count: usize, place: usize) -> Option<i32>
+    ensures { λ r. ⌜ Picked (now (numbers .entry)) count place r ⌝ }
+{
+    if place < count.min(numbers.len()) {
+        Some(numbers[place])
+    } else {
+        None
+    }
+}
+
 /// The answer at an index beyond the `length` elements below: a reading, or the whole length.
 fn reading(numbers: &[i32], count: usize, length: u32, index: u32) -> Result<Value, StoreFault>
     requires { ⌜ length ≤ index ⌝ }
     ensures { λ r. ⌜ Read (as-values (take count (now (numbers .entry)))) length index r ⌝ }
 {
-    let known = count.min(numbers.len());
-    let place = (index - length) as usize;
-    if place < known {
-        Ok(Value::Number(numbers[place]))
-    } else {
-        Err(StoreFault::Beyond {
-            length: length + known as u32,
-        })
+    match pick(numbers, count, (index - length) as usize) {
+        Some(number) => Ok(Value::Number(number)),
+        None => Err(StoreFault::Beyond {
+            length: length + count.min(numbers.len()) as u32,
+        }),
     }
 }
 
@@ -54,6 +63,32 @@ impl<S: BareStore + Store<Elem = Value>> ReadingsLayer<S> {
     {
         let ReadingsLayer { below, readings: _ } = self;
         below
+    }
+
+    /// Extends the list below: the readings stay behind it.
+    fn extend_below(&mut self, handle: u32, elem: Value) -> Result<u32, StoreFault>
+        ensures extended { λ r. ⌜ Extended (behind (values-of (now (self .entry) .readings)) (S·Store .lists (now (self .entry) .below))) (behind (values-of (now (self .exit) .readings)) (S·Store .lists (now (self .exit) .below))) (S·Store .room (now (self .entry) .below)) (S·Store .room (now (self .exit) .below)) (cost-below (values-of (now (self .entry) .readings)) (S·Store .cost (now (self .entry) .below))) handle elem r ⌝ }
+        ensures readings { λ _. ⌜ now (self .exit) .readings ≡ now (self .entry) .readings ⌝ }
+        ensures whole { λ _. ⌜ S·Store .whole (now (self .exit) .below) ≡ S·Store .whole (now (self .entry) .below) ⌝ }
+        ensures cost { λ _. ⌜ S·Store .cost (now (self .exit) .below) ≡ S·Store .cost (now (self .entry) .below) ⌝ }
+    {
+        self.below.extend(handle, elem)
+    }
+
+    /// Looks into the list below, and then among the readings behind it.
+    fn look_behind(&self, handle: u32, index: u32) -> Result<Value, StoreFault>
+        ensures { λ r. ⌜ Looked (behind (values-of (now (self .entry) .readings)) (S·Store .lists (now (self .entry) .below))) handle index r ⌝ }
+    {
+        match self.below.look(handle, index) {
+            Ok(value) => Ok(value),
+            Err(fault) => match fault {
+                StoreFault::Beyond { length } => {
+                    reading(&self.readings.numbers, self.readings.count, length, index)
+                }
+                StoreFault::NoList => Err(fault),
+                StoreFault::NoRoom => Err(fault),
+            },
+        }
     }
 }
 
@@ -83,20 +118,11 @@ pub impl<S: BareStore + Store<Elem = Value>> Store for ReadingsLayer<S> as Readi
     }
 
     fn extend(&mut self, handle: u32, elem: Value) -> Result<u32, StoreFault> {
-        self.below.extend(handle, elem)
+        self.extend_below(handle, elem)
     }
 
     fn look(&self, handle: u32, index: u32) -> Result<Value, StoreFault> {
-        match self.below.look(handle, index) {
-            Ok(value) => Ok(value),
-            Err(fault) => match fault {
-                StoreFault::Beyond { length } => {
-                    reading(&self.readings.numbers, self.readings.count, length, index)
-                }
-                StoreFault::NoList => Err(fault),
-                StoreFault::NoRoom => Err(fault),
-            },
-        }
+        self.look_behind(handle, index)
     }
 
     fn free(&self) -> u32 {

@@ -15,6 +15,13 @@ pub struct Readings {
     pub(crate) count: usize,
 }
 
+/// As many zeros as there can be readings.
+fn zero_numbers() -> [i32; MOST]
+    ensures { λ r. ⌜ r ≡ replicate 8 (pos 0) ⌝ }
+{
+    [0; MOST]
+}
+
 impl Readings {
     /// These numbers; of more than eight the first eight.
     pub fn new(numbers: &[i32]) -> Readings
@@ -36,7 +43,7 @@ impl Readings {
         ensures { λ r. ⌜ numbers-of r ≡ replicate (min 8 count) (pos 0) ⌝ }
     {
         Readings {
-            numbers: [0; MOST],
+            numbers: zero_numbers(),
             count: count.min(MOST),
         }
     }

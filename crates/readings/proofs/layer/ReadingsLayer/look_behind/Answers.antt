@@ -1,6 +1,6 @@
 use Rattle.readings.specs.Behind.{values-of}
 use Rattle.readings.proofs.Layered.{looked-ok, looked-no-list, looked-no-room, beyond-told, looked-beyond}
-use Rattle.readings.proofs.layer.ReadingsLayerStore.look.Needs as need
+use Rattle.readings.proofs.layer.ReadingsLayer.look_behind.Needs as need
 
 pub reading-requires : need.reading-requires
 reading-requires g c κs =
