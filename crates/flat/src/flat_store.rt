@@ -123,7 +123,7 @@ fn element_slot(handle: u32, length: u32, index: u32) -> u32
     requires { ⌜ length < handle ⌝ ∗ ⌜ index < length ⌝ }
     ensures { λ r. ⌜ r ≡ handle - 1 - length + index ⌝ }
 {
-    handle - 1 - length + index
+    handle - length - 1 + index
 }
 
 /// The element in a slot.

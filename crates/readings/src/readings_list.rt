@@ -28,7 +28,7 @@ impl Readings {
         ensures { λ r. ⌜ numbers-of r ≡ take 8 (now (numbers .entry)) ⌝ }
     {
         let count = numbers.len().min(MOST);
-        let mut held = [0; MOST];
+        let mut held = zero_numbers();
         for i in 0..count {
             held[i] = numbers[i];
         }
