@@ -8,6 +8,8 @@ use lib.Dec.{eqb, leb, ltb}
 use lib.ListN.{length, getD, replicate}
 use Rattle.std.specs.declared.option.Option.{Option}
 use Rattle.std.specs.declared.option.Option.the-variants.{Some, None}
+use Rattle.std.specs.declared.result.Result.the-variants.{Ok}
+use Rattle.store.specs.Lists.{Cleared, Extended}
 use Rattle.store.specs.Room.{counted}
 use Rattle.flat.specs.declared.slot.Slot.{Slot}
 use Rattle.flat.specs.declared.slot.Slot.the-variants.{Spare, Element, Ends}
@@ -66,3 +68,14 @@ pub record Placed {T : Type 0} (blank : T) (before after : List (Slot T)) (start
 -- the elements, the new one, and the slot that ends the list
 abbrev pub cost-of : ℕ → ℕ
 cost-of n = n + 2
+
+module _ {T : Type 0} where
+  -- as after `clear`, with the empty base list
+  abbrev pub New : T → List (Slot T) → ℕ → Type 0
+  New blank slots used = Cleared (lists-of blank slots used) [] (whole-of slots) (room-of slots used)
+
+  -- one list more, at its cost, which puts x before the n elements of handle h
+  abbrev pub Pushed : T → List (Slot T) → List (Slot T) → ℕ → ℕ → ℕ → T → Type 0
+  Pushed blank before after used h n x =
+      let used′ = used + cost-of n in
+      Extended (lists-of blank before used) (lists-of blank after used′) (room-of before used) (room-of after used′) cost-of h x (Ok used′)

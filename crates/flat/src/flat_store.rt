@@ -6,9 +6,9 @@ ghost use Prim.Native.Nat.{ℕ, _+_, _-_, _≤_, _<_};
 ghost use lib.ListN.{length, getD, set};
 ghost use Rattle.std.specs.declared.option.Option.the-variants.{Some};
 ghost use Rattle.std.specs.declared.result.Result.the-variants.{Ok};
-ghost use Rattle.store.specs.Lists.{Cleared, Extended, Looked};
+ghost use Rattle.store.specs.Lists.{Looked};
 ghost use Rattle.flat.specs.declared.slot.Slot.the-variants.{Spare, Element};
-ghost use Rattle.flat.specs.Spans.{spares, element-of, span-of, lists-of, whole-of, room-of, cost-of, Placed, Spanned};
+ghost use Rattle.flat.specs.Spans.{spares, element-of, span-of, lists-of, whole-of, room-of, cost-of, Placed, Spanned, New, Pushed};
 use crate::slot::Slot;
 use store::blank::Blank;
 use store::contract::BareStore;
@@ -92,7 +92,7 @@ fn first_slot(handle: u32, length: u32) -> u32
 fn push<T: Blank + Copy>(slots: &mut [Slot<T>], used: u32, handle: u32, length: u32, element: T)
     requires known { ⌜ span-of (now slots) used handle ≡ Some length ⌝ }
     requires room { ⌜ cost-of length ≤ room-of (now slots) used ⌝ }
-    ensures { λ _. ⌜ Extended (lists-of (T·Blank .unwritten) (now (slots .entry)) used) (lists-of (T·Blank .unwritten) (now (slots .exit)) (used + (length + 2))) (room-of (now (slots .entry)) used) (room-of (now (slots .exit)) (used + (length + 2))) cost-of handle element (Ok (used + (length + 2))) ⌝ }
+    ensures { λ _. ⌜ Pushed (T·Blank .unwritten) (now (slots .entry)) (now (slots .exit)) used handle length element ⌝ }
 {
     place(
         slots,
@@ -137,7 +137,7 @@ fn read<T: Blank + Copy>(slots: &[Slot<T>], place: usize) -> T
 impl<'a, T: Blank + Copy> FlatStore<'a, T> {
     /// A store over these slots, as after `clear`.
     pub fn new(slots: &'a mut [Slot<T>]) -> FlatStore<'a, T>
-        ensures cleared { λ r. ⌜ Cleared (lists-of (T·Blank .unwritten) (now (r .slots)) (r .used)) [] (whole-of (now (r .slots))) (room-of (now (r .slots)) (r .used)) ⌝ }
+        ensures cleared { λ r. ⌜ New (T·Blank .unwritten) (now (r .slots)) (r .used) ⌝ }
         ensures wiped { λ r. ⌜ now (r .slots) ≡ spares (now (slots .entry)) ⌝ }
     {
         wipe(slots);

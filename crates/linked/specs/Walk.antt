@@ -1,12 +1,14 @@
 -- The lists that cells hold: handle h names cell h - 1, and a cell's list is its element
 -- before the list of the handle below it. Handle 0 has the empty list.
-use Prim.Native.Nat.{ℕ, zero, suc, _-_, min}
+use Prim.Native.Nat.{ℕ, zero, suc, _+_, _-_, min}
 use mathlib.Core.Bool.{cond}
 use mathlib.Core.List.{List, [], _∷_}
 use lib.Dec.{leb, ltb}
 use lib.ListN.{length, getD, replicate}
 use Rattle.std.specs.declared.option.Option.{Option}
 use Rattle.std.specs.declared.option.Option.the-variants.{Some, None}
+use Rattle.std.specs.declared.result.Result.the-variants.{Ok}
+use Rattle.store.specs.Lists.{Cleared, Extended}
 use Rattle.store.specs.Room.{counted}
 use Rattle.linked.specs.declared.cell.Cell.{Cell}
 
@@ -38,3 +40,12 @@ module _ {T : Type 0} where
 
   abbrev pub room-of : List (Cell T) → ℕ → ℕ
   room-of cells made = whole-of cells - made
+
+  -- as after `clear`, with the empty base list
+  abbrev pub New : T → List (Cell T) → ℕ → Type 0
+  New blank cells made = Cleared (lists-of blank cells made) [] (whole-of cells) (room-of cells made)
+
+  -- one cell more, at a cost of 1, which puts x before the list of handle h
+  abbrev pub Pushed : T → List (Cell T) → List (Cell T) → ℕ → ℕ → T → Type 0
+  Pushed blank before after made h x =
+      Extended (lists-of blank before made) (lists-of blank after (made + 1)) (room-of before made) (room-of after (made + 1)) (λ _. 1) h x (Ok (made + 1))

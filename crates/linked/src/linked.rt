@@ -2,12 +2,11 @@
 ghost use denote.Ref.{now};
 ghost use mathlib.Core.Path.{_≡_};
 ghost use mathlib.Core.List.{[]};
-ghost use Prim.Native.Nat.{_+_, _<_, _≤_, min};
+ghost use Prim.Native.Nat.{_<_, _≤_, min};
 ghost use lib.Dec.{leb};
 ghost use lib.ListN.{length, set};
-ghost use Rattle.std.specs.declared.result.Result.the-variants.{Ok};
-ghost use Rattle.store.specs.Lists.{Cleared, Extended, Found};
-ghost use Rattle.linked.specs.Walk.{walk, blanks, lists-of, whole-of, room-of};
+ghost use Rattle.store.specs.Lists.{Found};
+ghost use Rattle.linked.specs.Walk.{walk, blanks, lists-of, whole-of, room-of, New, Pushed};
 use crate::cell::Cell;
 use store::blank::Blank;
 use store::contract::BareStore;
@@ -45,7 +44,7 @@ fn write<T: Copy>(cells: &mut [Cell<T>], place: usize, element: T, below: u32)
 fn push<T: Blank + Copy>(cells: &mut [Cell<T>], made: u32, handle: u32, element: T)
     requires known { ⌜ handle ≤ made ⌝ }
     requires room { ⌜ 1 ≤ room-of (now cells) made ⌝ }
-    ensures { λ _. ⌜ Extended (lists-of (T·Blank .unwritten) (now (cells .entry)) made) (lists-of (T·Blank .unwritten) (now (cells .exit)) (made + 1)) (room-of (now (cells .entry)) made) (room-of (now (cells .exit)) (made + 1)) (λ _. 1) handle element (Ok (made + 1)) ⌝ }
+    ensures { λ _. ⌜ Pushed (T·Blank .unwritten) (now (cells .entry)) (now (cells .exit)) made handle element ⌝ }
 {
     write(cells, made as usize, element, handle);
 }
@@ -53,7 +52,7 @@ fn push<T: Blank + Copy>(cells: &mut [Cell<T>], made: u32, handle: u32, element:
 impl<'a, T: Blank + Copy> LinkedStore<'a, T> {
     /// A store over these cells, as after `clear`.
     pub fn new(cells: &'a mut [Cell<T>]) -> LinkedStore<'a, T>
-        ensures cleared { λ r. ⌜ Cleared (lists-of (T·Blank .unwritten) (now (r .cells)) (r .made)) [] (whole-of (now (r .cells))) (room-of (now (r .cells)) (r .made)) ⌝ }
+        ensures cleared { λ r. ⌜ New (T·Blank .unwritten) (now (r .cells)) (r .made) ⌝ }
         ensures wiped { λ r. ⌜ now (r .cells) ≡ blanks (T·Blank .unwritten) (now (cells .entry)) ⌝ }
     {
         wipe(cells);

@@ -2,7 +2,7 @@
 ghost use mathlib.Core.Path.{_≡_};
 ghost use mathlib.Core.List.{List, []};
 ghost use Prim.Native.Nat.{ℕ};
-ghost use Rattle.store.specs.Lists.{Lists, Same, Sound, Cleared, Extended, Looked};
+ghost use Rattle.store.specs.Lists.{Lists, Sound, Cleared, Extended, Looked};
 use crate::fault::StoreFault;
 
 /// Lists of elements in lent memory, each under a handle.
@@ -17,9 +17,10 @@ pub trait Store {
     /// The list of handle 0.
     ghost base: { Self → List Self·Elem };
 
-    /// The room of a store that was just cleared, and what is free of it now.
+    /// The room of a store that was just cleared.
     ghost whole: { Self → ℕ };
 
+    /// What is free of it now.
     ghost room: { Self → ℕ };
 
     /// What it takes from the room to put an element before a list of a given length.
