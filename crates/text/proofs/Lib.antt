@@ -1,9 +1,4 @@
-pub mod Keywords
-pub mod Lexemes
-pub mod Decimals
-pub mod Finding
-pub mod Naming
-pub mod Amounting
+pub mod Opening
 pub mod Turns
 pub mod Growing
 pub mod Readiness

@@ -1,7 +1,7 @@
 -- The number and the place of each refusal. Assumes nothing.
 use Prim.Native.Nat.{ℕ}
-use Rattle.text.specs.declared.fault.LexFault.{LexFault}
-use Rattle.text.specs.declared.fault.LexFault.the-variants.{NoToken, OutOfRange}
+use Rattle.lexer.specs.declared.fault.LexFault.{LexFault}
+use Rattle.lexer.specs.declared.fault.LexFault.the-variants.{NoToken, OutOfRange}
 use Rattle.text.specs.declared.fault.CompileFault.{CompileFault}
 use Rattle.text.specs.declared.fault.CompileFault.the-variants.{TooLong, Lex, Unexpected, Unknown, TooManyNodes, NoRoom}
 

@@ -18,7 +18,7 @@ use Rattle.grammar.specs.Token as plain
 use Rattle.grammar.specs.Walking.{Stand, Current, Went, Unread, Missed, is-name}
 use Rattle.std.specs.declared.result.Result.{Result}
 use Rattle.std.specs.declared.result.Result.the-variants.{Ok, Err}
-use Rattle.text.specs.declared.fault.LexFault.{LexFault}
+use Rattle.lexer.specs.declared.fault.LexFault.{LexFault}
 use Rattle.text.specs.declared.fault.CompileFault.{CompileFault}
 use Rattle.text.specs.declared.fault.CompileFault.the-variants.{Lex}
 use Rattle.text.specs.declared.node.Node.{Node}
@@ -26,11 +26,11 @@ use Rattle.text.specs.declared.node.Node.the-variants.{Number, Truth, Variable
 use Rattle.text.specs.declared.parser.Parser.{Parser}
 use Rattle.text.specs.declared.scope.Part.{Part}
 use Rattle.text.specs.declared.scope.Scope.{Scope}
-use Rattle.text.specs.declared.token.Placed.{Placed}
+use Rattle.lexer.specs.declared.token.Placed.{Placed}
 use Rattle.text.specs.Faults.{number, place}
 use Rattle.text.specs.Nodes.{Grown}
 use Rattle.text.specs.Scopes.{Inside}
-use Rattle.text.specs.Shown.{shown}
+use Rattle.lexer.specs.Shown.{shown}
 
 abbrev pub stand : Placed → Stand
 stand p = record { token = shown (p .token); place = p .place; stop = p .stop }

@@ -1,17 +1,20 @@
 //! From a text to its record.
+ghost use mathlib.Core.Path.{_≡_};
+ghost use lib.Dec.{ltb};
+ghost use lib.ListN.{length};
 ghost use Prim.Native.Nat.{_≤_};
 ghost use Rattle.syntax.specs.Tree.{Tree};
-ghost use Rattle.text.specs.Books.{names};
+ghost use Rattle.book.specs.Books.{names};
 ghost use Rattle.text.specs.Compiling.{Compiled, Held, Recorded};
 use crate::fault::CompileFault;
-use crate::name::Book;
+use book::name::Book;
 use crate::node::MOST_NODES;
 use crate::node::Table;
 use crate::parser::Parser;
 use crate::refusal::CompileFaultFromLex;
 use crate::scope::Scope;
-use crate::token::Placed;
-use crate::token::Token;
+use lexer::token::Placed;
+use lexer::token::Token;
 use crate::write::put;
 use crate::write::put_two;
 use crate::write::write;
@@ -19,13 +22,19 @@ use crate::write::write;
 /// How many bytes a text may have.
 const MOST_TEXT: usize = 4_096;
 
+fn is_too_long(text: &[u8]) -> bool
+    ensures { λ r. ⌜ r ≡ ltb 4096 (length (now (text .entry))) ⌝ }
+{
+    text.len() > MOST_TEXT
+}
+
 /// Reads a text and writes its record at the front of `out`; answers the record's count of bytes.
 ///
 /// A refusal leaves `out` as it was, and a success writes nothing behind the record.
 pub fn compile(text: &[u8], book: &Book, out: &mut [u8]) -> Result<usize, CompileFault>
     ensures { λ r. ⌜ Compiled (now (text .entry)) (names (now (book .entry))) (now (out .entry)) (now (out .exit)) r ⌝ }
 {
-    if text.len() > MOST_TEXT {
+    if is_too_long(text) {
         return Err(CompileFault::TooLong);
     }
     let current = Placed { token: Token::End, place: 0, stop: 0 };

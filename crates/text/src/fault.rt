@@ -1,17 +1,7 @@
 //! Refusals, each with its number and its place.
 
-/// A name that a book does not take: refusal 53, at place 0.
-#[derive(Clone, Copy, Debug)]
-pub struct NameFault;
-
-/// What the lexer refuses.
-#[derive(Clone, Copy, Debug)]
-pub enum LexFault {
-    /// No token begins at this place: refusal 52.
-    NoToken(usize),
-    /// The number at this place is out of range: refusal 54.
-    OutOfRange(usize),
-}
+use lexer::fault::LexFault;
+use lexer::fault::LexFaultDebug;
 
 /// Why a text has no record.
 #[derive(Clone, Copy, Debug)]

@@ -2,7 +2,7 @@
 ghost use mathlib.Core.Path.{_≡_};
 ghost use Rattle.grammar.specs.Token.{is, mark};
 ghost use Rattle.grammar.specs.Walking.{is-name};
-ghost use Rattle.text.specs.Books.{names};
+ghost use Rattle.book.specs.Books.{names};
 ghost use Rattle.text.specs.Parsing.{at, Single, Ready, Advanced, Passed, Named, ReadsExpr, ReadsBody, ReadsComparison, ReadsSum, ReadsApplication, ReadsAtom};
 ghost use Rattle.text.specs.Scopes.{open-names, Restored};
 ghost use lib.ListN.{length};
@@ -11,19 +11,19 @@ ghost use mathlib.Core.Bool.{false};
 ghost use mathlib.Core.List.{_++_};
 ghost use Rattle.grammar.specs.declared.Mark.the-variants.{Fun, Let, If, Open};
 use crate::fault::CompileFault;
-use crate::fault::LexFault;
-use crate::lexer::next_token;
-use crate::name::Book;
+use lexer::fault::LexFault;
+use lexer::scan::next_token;
+use book::name::Book;
 use crate::node::Node;
 use crate::node::Table;
-use crate::number::amount;
+use lexer::number::amount;
 use crate::refusal::CompileFaultFromLex;
 use crate::scope::distance;
 use crate::scope::Opened;
 use crate::scope::Part;
 use crate::scope::Scope;
-use crate::token::Placed;
-use crate::token::Token;
+use lexer::token::Placed;
+use lexer::token::Token;
 use grammar::Mark;
 
 /// The token in hand, and the nodes of what has been read.
@@ -39,19 +39,9 @@ impl<'a> Parser<'a> {
         requires { ⌜ now self .current .stop ≤ length (now text) ⌝ }
         ensures { λ r. ⌜ Advanced (now (text .entry)) (now (self .entry)) (now (self .exit)) r ⌝ }
     {
-        let from = self.current.stop;
-        match next_token(text, from) {
-            Err(place) => Err(LexFault::NoToken(place)),
-            Ok(next) => {
-                if let Token::Number(spelled) = next.token {
-                    if amount(spelled).is_none() {
-                        return Err(LexFault::OutOfRange(next.place));
-                    }
-                }
-                self.current = next;
-                Ok(())
-            }
-        }
+        let next = next_token(text, self.current.stop)?;
+        self.current = next;
+        Ok(())
     }
 
     /// Goes over a keyword or a sign that has to stand here.
@@ -178,10 +168,10 @@ impl<'a> Parser<'a> {
         ensures reads { λ r. ⌜ ReadsSum (now (text .entry)) (names (now (book .entry))) (open-names (now (text .entry)) (now (scope .entry))) (now (self .entry)) (now (self .exit)) r ⌝ }
     {
         let mut left = self.application(text, book, scope)?;
-        while self.current.token.is(Mark::Plus) {
+        while self.current.token.adds() {
             self.advance(text)?;
             let right = self.application(text, book, scope)?;
-            left = self.table.push(Node::Sum(left, right));
+            left = self.table.push(Node::summed(left, right));
         }
         Ok(left)
     }
@@ -195,7 +185,7 @@ impl<'a> Parser<'a> {
         let mut function = self.atom(text, book, scope)?;
         while self.current.token.starts_atom() {
             let argument = self.atom(text, book, scope)?;
-            function = self.table.push(Node::Application(function, argument));
+            function = self.table.push(Node::applied(function, argument));
         }
         Ok(function)
     }
@@ -235,7 +225,7 @@ impl<'a> Parser<'a> {
                 None => Err(LexFault::OutOfRange(place).into()),
             },
             Token::Name(name) => match distance(text, scope, book, name) {
-                Some(far) => Ok(Node::Variable(far)),
+                Some(far) => Ok(Node::variable(far)),
                 None => Err(CompileFault::Unknown(place)),
             },
             Token::End => Err(CompileFault::Unexpected(place)),

@@ -3,8 +3,7 @@ ghost use mathlib.Core.Path.{_≡_};
 ghost use Rattle.text.specs.Faults.{number, place};
 ghost use Rattle.text.specs.declared.fault.CompileFault.the-variants.{Lex};
 use crate::fault::CompileFault;
-use crate::fault::LexFault;
-use crate::fault::NameFault;
+use lexer::fault::LexFault;
 
 pub impl From<LexFault> for CompileFault as CompileFaultFromLex {
     ghost converts = { λ f r. r ≡ Lex f };
@@ -41,21 +40,5 @@ impl CompileFault {
             CompileFault::Unknown(place) => *place,
             CompileFault::TooLong | CompileFault::TooManyNodes | CompileFault::NoRoom => 0,
         }
-    }
-}
-
-impl NameFault {
-    /// The refusal's number.
-    pub fn number(&self) -> u8
-        ensures { λ r. ⌜ r ≡ 53 ⌝ }
-    {
-        53
-    }
-
-    /// Its place, 0: a name has no text around it.
-    pub fn place(&self) -> usize
-        ensures { λ r. ⌜ r ≡ 0 ⌝ }
-    {
-        0
     }
 }

@@ -3,10 +3,10 @@ ghost use mathlib.Core.List.{_++_};
 ghost use mathlib.Core.Path.{_≡_};
 ghost use lib.ListN.{length, set};
 ghost use Prim.Native.Nat.{_+_, _≤_, _<_};
-ghost use Rattle.text.specs.Books.{names, Found};
+ghost use Rattle.book.specs.Books.{names, Found};
 ghost use Rattle.text.specs.Scopes.{opened, open-names, AllInside, Inside};
-use crate::book::same_bytes;
-use crate::name::Book;
+use book::book::same_bytes;
+use book::name::Book;
 
 /// As many names as a text of 4,096 bytes can have open at once: each takes three tokens to open.
 pub(crate) const MOST_OPEN: usize = 1_366;

@@ -1,11 +1,30 @@
 //! Filling the table of nodes.
 ghost use mathlib.Core.Path.{_≡_};
+ghost use Rattle.text.specs.declared.node.Node.the-variants.{Variable, Application, Sum};
 ghost use Rattle.text.specs.Nodes.{width, Pushed};
 use crate::node::MOST_NODES;
 use crate::node::Node;
 use crate::node::Table;
 
 impl Node {
+    pub(crate) fn variable(distance: usize) -> Node
+        ensures { λ r. ⌜ r ≡ Variable distance ⌝ }
+    {
+        Node::Variable(distance)
+    }
+
+    pub(crate) fn applied(function: usize, argument: usize) -> Node
+        ensures { λ r. ⌜ r ≡ Application function argument ⌝ }
+    {
+        Node::Application(function, argument)
+    }
+
+    pub(crate) fn summed(left: usize, right: usize) -> Node
+        ensures { λ r. ⌜ r ≡ Sum left right ⌝ }
+    {
+        Node::Sum(left, right)
+    }
+
     /// How many bytes a node takes in a record, its children apart.
     fn width(self) -> usize
         ensures { λ r. ⌜ r ≡ Rattle.text.specs.Nodes.width self ⌝ }

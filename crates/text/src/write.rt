@@ -2,7 +2,7 @@
 ghost use mathlib.Core.List.{_∷_, []};
 ghost use mathlib.Core.Path.{_≡_};
 ghost use lib.ListN.{length, set};
-ghost use Prim.Native.Nat.{_+_, _≤_, _<_};
+ghost use Prim.Native.Nat.{_+_, _/_, _%_, _≤_, _<_};
 ghost use Rattle.syntax.specs.Record.{two-bytes, four-bytes};
 ghost use Rattle.text.specs.Writing.{written, Fits, Wrote, FitsTwo, WroteTwo};
 use crate::node::Node;
@@ -16,13 +16,27 @@ pub(crate) fn put(out: &mut [u8], at: usize, byte: u8) -> usize
     at + 1
 }
 
-/// Puts a kind byte and the two bytes of a number, the higher first.
+/// The higher of a number's two lowest bytes.
+fn high(n: usize) -> u8
+    ensures { λ r. ⌜ r ≡ n / 256 % 256 ⌝ }
+{
+    (n / 256 % 256) as u8
+}
+
+/// The lowest byte of a number.
+fn low(n: usize) -> u8
+    ensures { λ r. ⌜ r ≡ n % 256 ⌝ }
+{
+    (n % 256) as u8
+}
+
+/// Puts the two bytes of a number, the higher first.
 pub(crate) fn put_two(out: &mut [u8], at: usize, n: usize) -> usize
     requires { ⌜ at + 2 ≤ length (now out) ⌝ }
     ensures { λ r. ⌜ r ≡ at + 2 ⌝ ∗ ⌜ now (out .exit) ≡ written (now (out .entry)) at (two-bytes n) ⌝ }
 {
-    let at = put(out, at, (n / 256 % 256) as u8);
-    put(out, at, (n % 256) as u8)
+    let at = put(out, at, high(n));
+    put(out, at, low(n))
 }
 
 fn put_four(out: &mut [u8], at: usize, k: i32) -> usize

@@ -2,6 +2,7 @@ use mathlib.Core.List.{_++_}
 use mathlib.Core.Option.{some}
 use mathlib.Core.Path.{_≡_, refl, sym, _∙_, ap, subst}
 use native.Mathlib.Omega.{arith}
+use borrow.Author.Tests.{true-ltb, false-ltb}
 use lib.ListN.{length}
 use Rattle.grammar.specs.Automaton.{is-end}
 use Rattle.grammar.specs.Classes.{RefusedExpr, ReadExpr}
@@ -13,7 +14,7 @@ use Rattle.grammar.proofs.Verdicts.{first-unread, refused-verdict, rest-verdict
 use Rattle.grammar.proofs.Walking.{went-current}
 use Rattle.std.specs.declared.result.Result.the-variants.{Ok}
 use Rattle.text.specs.declared.fault.CompileFault.the-variants.{Lex}
-use Rattle.text.specs.Books.{names}
+use Rattle.book.specs.Books.{names}
 use Rattle.text.specs.Faults.{number, place}
 use Rattle.text.specs.Nodes.{Grown}
 use Rattle.text.specs.Parsing.{at, stand}
@@ -25,8 +26,8 @@ use Rattle.text.proofs.compile.compile.Needs as need
 abbrev before : Stand
 before = record { token = end; place = 0; stop = 0 }
 
-pub returns-then-text-gt-MOST-TEXT : need.returns-then-text-gt-MOST-TEXT
-returns-then-text-gt-MOST-TEXT c = (verdict.too-long (c .if-text-gt-MOST-TEXT .taken), refl)
+pub returns-then-is-too-long : need.returns-then-is-too-long
+returns-then-is-too-long c = (verdict.too-long (true-ltb 4096 (length (c .args .text .now)) (c .if-is-too-long .ensures tt)), refl)
 
 pub returns-in-Break-advance : need.returns-in-Break-advance
 returns-in-Break-advance c =
@@ -34,13 +35,13 @@ returns-in-Break-advance c =
     let B = names (c .args .book .now) in
     let out = c .args .out .now in
     let f = Lex (c .in-Break-advance .field-0 .0) in
-    exit-compile s B out out (c .from-residual .result) f (c .from-residual .ensures .1) (first-unread B s (c .if-text-gt-MOST-TEXT .left) (length out) (number f) (place f) (c .in-Break-advance .ensures tt)) refl
+    exit-compile s B out out (c .from-residual .result) f (c .from-residual .ensures .1) (first-unread B s (false-ltb 4096 (length (c .args .text .now)) (c .if-is-too-long .ensures tt)) (length out) (number f) (place f) (c .in-Break-advance .ensures tt)) refl
 
 pub expr-requires : need.expr-requires
 expr-requires c κs =
     let scope = c .new-scope .result in
     let w = went-current (c .args .text .now) before (at (c .advance .last .self)) (c .in-Continue-advance .ensures tt .0) in
-    record { short = c .if-text-gt-MOST-TEXT .left; current = w .0; room = omega (arith, c .new-scope .ensures .0); memory = c .new-scope .ensures .1; inside = λ i lt. absurd (omega (arith, c .new-scope .ensures .0)) }
+    record { short = false-ltb 4096 (length (c .args .text .now)) (c .if-is-too-long .ensures tt); current = w .0; room = omega (arith, c .new-scope .ensures .0); memory = c .new-scope .ensures .1; inside = λ i lt. absurd (omega (arith, c .new-scope .ensures .0)) }
 
 pub returns-in-Break-root : need.returns-in-Break-root
 returns-in-Break-root c =
@@ -51,7 +52,7 @@ returns-in-Break-root c =
     let q = c .advance .last .self in
     let none = none-open s (c .new-scope .result) (c .new-scope .ensures .0) in
     let no = subst (λ o. RefusedExpr B (o ++ B) s (at q) (number f) (place f)) none (c .in-Break-root .ensures tt .reads) in
-    exit-compile s B out out (c .from-residual-in-Break-root .result) f (c .from-residual-in-Break-root .ensures .1) (refused-verdict B s (c .if-text-gt-MOST-TEXT .left) (length out) before (at q) (number f) (place f) refl (c .in-Continue-advance .ensures tt .0) no) refl
+    exit-compile s B out out (c .from-residual-in-Break-root .result) f (c .from-residual-in-Break-root .ensures .1) (refused-verdict B s (false-ltb 4096 (length (c .args .text .now)) (c .if-is-too-long .ensures tt)) (length out) before (at q) (number f) (place f) refl (c .in-Continue-advance .ensures tt .0) no) refl
 
 pub returns-then-not-is-end : need.returns-then-not-is-end
 returns-then-not-is-end c =
@@ -62,7 +63,7 @@ returns-then-not-is-end c =
     let none = none-open s (c .new-scope .result) (c .new-scope .ensures .0) in
     let b = c .in-Continue-root .ensures tt .reads in
     let read = subst (λ o. ReadExpr B (o ++ B) s (at q) (at r) (b .0)) none (b .2) in
-    (rest-verdict B s (c .if-text-gt-MOST-TEXT .left) (length (c .args .out .now)) before (at q) (at r) (b .0) refl (c .in-Continue-advance .ensures tt .0) read (sym (c .if-not-is-end .ensures tt)), refl)
+    (rest-verdict B s (false-ltb 4096 (length (c .args .text .now)) (c .if-is-too-long .ensures tt)) (length (c .args .out .now)) before (at q) (at r) (b .0) refl (c .in-Continue-advance .ensures tt .0) read (sym (c .if-not-is-end .ensures tt)), refl)
 
 pub record-requires : need.record-requires
 record-requires c κs =
@@ -80,6 +81,6 @@ returns c =
     let b = c .in-Continue-root .ensures tt .reads in
     let read = subst (λ o. ReadExpr B (o ++ B) s (at q) (at r) (b .0)) none (b .2) in
     let whole = subst (λ o. resolved (o ++ B) (b .0) ≡ some (b .1)) none (b .3) in
-    let m = means B s (c .if-text-gt-MOST-TEXT .left) (length out) before (at q) (at r) (b .0) (b .1) refl (c .in-Continue-advance .ensures tt .0) read (sym (c .if-not-is-end .ensures tt)) whole in
+    let m = means B s (false-ltb 4096 (length (c .args .text .now)) (c .if-is-too-long .ensures tt)) (length out) before (at q) (at r) (b .0) (b .1) refl (c .in-Continue-advance .ensures tt .0) read (sym (c .if-not-is-end .ensures tt)) whole in
     let held = grown-held (c .new .result) (r .table) (b .1) (c .in-Continue-root .root) (c .new .ensures) (subst (λ k. Grown k (r .table) (b .1) (c .in-Continue-root .root)) (c .in-Continue-advance .ensures tt .1) (b .4)) in
     recorded-verdict s B (c .readings .result) (b .1) out (c .record .last .out) (c .record .result) (c .readings .ensures .0) m (c .record .ensures (b .1) held)

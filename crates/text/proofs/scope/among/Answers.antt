@@ -1,6 +1,6 @@
 use mathlib.Core.Path.{sym}
 use native.Mathlib.Omega.{arith}
-use Rattle.text.proofs.Finding.{open-here, open-on}
+use Rattle.text.proofs.Opening.{open-here, open-on}
 use Rattle.text.proofs.scope.among.Needs as need
 
 pub returns-then-same-bytes : need.returns-then-same-bytes

@@ -2,7 +2,7 @@ use Prim.Native.Nat.{_-_, _≤_}
 use mathlib.Core.Path.{_≡_}
 use Rattle.grammar.specs.Names.{distance}
 use Rattle.text.specs.Scopes.{opened}
-use Rattle.text.proofs.Finding.{later}
+use Rattle.book.proofs.Finding.{later}
 use Rattle.text.proofs.scope.among.Given as given
 
 abbrev pub Inv-loop-i : given.InvT-loop-i

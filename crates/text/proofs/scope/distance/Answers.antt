@@ -3,10 +3,11 @@ use native.Mathlib.Omega.{arith}
 use lib.ListN.{length}
 use Prim.Native.Nat.{_+_}
 use Rattle.grammar.specs.Names.{distance}
-use Rattle.text.specs.Books.{names}
+use Rattle.book.specs.Books.{names}
 use Rattle.text.specs.Scopes.{open-names}
-use Rattle.text.proofs.Finding.{later, distance-front, distance-back, distance-<, length-opened}
-use Rattle.text.proofs.Naming.{names-length}
+use Rattle.book.proofs.Finding.{later, distance-front, distance-back, distance-<}
+use Rattle.text.proofs.Opening.{length-opened}
+use Rattle.book.proofs.Naming.{names-length}
 use Rattle.text.proofs.scope.distance.Needs as need
 
 pub returns-in-Some : need.returns-in-Some

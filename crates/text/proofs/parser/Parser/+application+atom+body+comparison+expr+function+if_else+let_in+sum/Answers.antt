@@ -11,8 +11,9 @@ use Rattle.grammar.proofs.Binders.{fun-unread, fun-unnamed, fun-unsigned, let-u
 use Rattle.grammar.proofs.Walking.{through-++, mark-on, name-on}
 use Rattle.std.specs.declared.result.Result.the-variants.{Ok}
 use Rattle.text.specs.declared.fault.CompileFault.the-variants.{Lex}
-use Rattle.text.specs.Books.{names}
+use Rattle.book.specs.Books.{names}
 use Rattle.text.specs.Faults.{number, place}
+use Rattle.text.specs.Nodes.{Pushed}
 use Rattle.text.specs.Parsing.{at, ReadsExpr, ReadsBody, ReadsSum, ReadsApplication, ReadsAtom}
 use Rattle.text.specs.Scopes.{open-names}
 use Rattle.text.proofs.Readiness.{restored-refl, restored-trans, restored-names, ready-on, ready-after, further, not-back, inside-text, put-names, put-ready, put-restored, atom-further}
@@ -215,7 +216,7 @@ application-loop-self-again t c =
     let yes = c .in-Continue-argument .ensures tt in
     let z = c .atom-in-loop-self .last .self in
     let through = yes .reads .2 .0 in
-    (restored-trans b d (c .atom-in-loop-self .last .scope) (inv .0) (yes .restored), application-again s B (open-names s b) first now z (c .push-function .last .self) (c .in-Continue-function .function) (c .loop-self .function) (c .in-Continue-argument .argument) (c .push-function .result) (inv .1) (subst (λ o. ReadsAtom s B o now z (Ok (c .in-Continue-argument .argument))) (restored-names s b d (inv .0)) (yes .reads)) (c .push-function .ensures))
+    (restored-trans b d (c .atom-in-loop-self .last .scope) (inv .0) (yes .restored), application-again s B (open-names s b) first now z (c .push-function .last .self) (c .in-Continue-function .function) (c .loop-self .function) (c .in-Continue-argument .argument) (c .push-function .result) (inv .1) (subst (λ o. ReadsAtom s B o now z (Ok (c .in-Continue-argument .argument))) (restored-names s b d (inv .0)) (yes .reads)) (subst (λ n. Pushed (z .table) (c .push-function .last .self) n (c .push-function .result)) (c .applied .ensures) (c .push-function .ensures)))
 
 pub application-returns : need.application-returns
 application-returns t c =
@@ -396,7 +397,7 @@ sum-loop-self-again t c =
     let yes = c .in-Continue-right .ensures tt in
     let z = c .application-in-loop-self .last .self in
     let through = yes .reads .2 .0 .0 in
-    (restored-trans b d (c .application-in-loop-self .last .scope) (inv .0) (yes .restored), sum-again s B (open-names s b) first now r z (c .push-left .last .self) (c .in-Continue-left .left) (c .loop-self .left) (c .in-Continue-right .right) (c .push-left .result) (inv .1) (sym (c .loop-self-test .ensures tt)) w (subst (λ o. ReadsApplication s B o r z (Ok (c .in-Continue-right .right))) (restored-names s b d (inv .0)) (yes .reads)) (c .push-left .ensures))
+    (restored-trans b d (c .application-in-loop-self .last .scope) (inv .0) (yes .restored), sum-again s B (open-names s b) first now r z (c .push-left .last .self) (c .in-Continue-left .left) (c .loop-self .left) (c .in-Continue-right .right) (c .push-left .result) (inv .1) (sym (c .loop-self-test .ensures tt)) w (subst (λ o. ReadsApplication s B o r z (Ok (c .in-Continue-right .right))) (restored-names s b d (inv .0)) (yes .reads)) (subst (λ n. Pushed (z .table) (c .push-left .last .self) n (c .push-left .result)) (c .summed .ensures) (c .push-left .ensures)))
 
 pub sum-returns : need.sum-returns
 sum-returns t c =

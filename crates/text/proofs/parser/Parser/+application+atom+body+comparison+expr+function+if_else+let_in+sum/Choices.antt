@@ -3,7 +3,7 @@ use mathlib.Core.Path.{_≡_}
 use lib.ListN.{length}
 use Prim.Native.Nat.{ℕ, _+_, _*_, _-_}
 use Rattle.text.specs.declared.parser.Parser.{Parser}
-use Rattle.text.specs.Books.{names}
+use Rattle.book.specs.Books.{names}
 use Rattle.text.specs.Scopes.{open-names, Restored}
 use Rattle.text.proofs.Turns.{ApplicationSoFar, SumSoFar}
 use Rattle.text.proofs.parser.Parser.+application+atom+body+comparison+expr+function+if_else+let_in+sum.Given as given

@@ -9,7 +9,7 @@ use Rattle.grammar.specs.Names.{variable-at}
 use Rattle.grammar.specs.Token as plain
 use Rattle.text.specs.declared.node.Node.the-variants.{Number}
 use Rattle.text.specs.Parsing.{leaf}
-use Rattle.text.specs.Shown.{shown, value}
+use Rattle.lexer.specs.Shown.{shown, value}
 use Rattle.text.proofs.parser.Parser.leaf.Needs as need
 
 pub returns-in-True : need.returns-in-True
@@ -25,4 +25,4 @@ returns-in-Some c =
     (literal (value (c .in-Number .spelled .now)), Tree.number (value (c .in-Number .spelled .now)), ap (λ t. leaf (shown t)) (c .in-Number .is), refl, ap Number (z ∙ c .in-Some .ensures tt .1))
 
 pub returns-in-Some-distance : need.returns-in-Some-distance
-returns-in-Some-distance c = (used (c .in-Name .name .now), Tree.variable (c .in-Some-distance .far), ap (λ t. leaf (shown t)) (c .in-Name .is), ap variable-at (c .in-Some-distance .ensures tt), refl)
+returns-in-Some-distance c = (used (c .in-Name .name .now), Tree.variable (c .in-Some-distance .far), ap (λ t. leaf (shown t)) (c .in-Name .is), ap variable-at (c .in-Some-distance .ensures tt), c .variable .ensures)

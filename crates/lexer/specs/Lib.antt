@@ -1,0 +1,4 @@
+pub mod Shown
+pub mod Runs
+pub mod Amounts
+pub mod Faults
