@@ -7,9 +7,9 @@ ghost use Rattle.grammar.specs.Names.{same};
 ghost use Rattle.book.specs.Books.{names, spelled, Found, Added};
 use crate::fault::NameFault;
 use crate::name::Book;
-use crate::name::Name;
 use crate::name::MOST_BYTES;
 use crate::name::MOST_READINGS;
+use crate::name::Name;
 use lexer::scan::is_name;
 
 /// Whether two names are equal.
@@ -77,7 +77,8 @@ impl Book {
     fn taken(&self) -> usize
         ensures { λ r. ⌜ r ≡ now (self .entry) .count ⌝ }
     {
-        self.count
+        let taken = self.count;
+        taken
     }
 
     /// Takes a name of at most 32 bytes that is new to the book, while it has fewer than 8. Anything

@@ -186,10 +186,13 @@ module _ (book : List Name) where
         reached-wrong book s p r _ (i .0) n place (i .1) (missed-wrong book s (is Close) (mark-on Close) r (i .0) _ n place (i .2) m)
 
     pub atom-paren : (p q r u : Stand) (e : Expr) → p .token ≡ mark Open → Went s p q → ReadExpr book names s q r e → is Close (r .token) ≡ true → Went s r u → ReadAtom book names s p u e
-    atom-paren p q r u e t w x c v =
-        (through-++ s p q u (through-one s p q (ap is-end t) w) (through-++ s q r u (x .0) (through-one s r u (mark-on Close (r .token) c) v)), omega (arith, w .0 .0 .0, through-current s q u (through-++ s q r u (x .0) (through-one s r u (mark-on Close (r .token) c) v)) (went-current s p q w .0) .1), λ cl sl ap′ k h.
+    atom-paren p q r u e t w x c v = (
+      through-++ s p q u (through-one s p q (ap is-end t) w) (through-++ s q r u (x .0) (through-one s r u (mark-on Close (r .token) c) v)),
+      omega (arith, w .0 .0 .0, through-current s q u (through-++ s q r u (x .0) (through-one s r u (mark-on Close (r .token) c) v)) (went-current s p q w .0) .1),
+      λ cl sl ap′ k h.
           let i = inside p q r e t w x cl sl ap′ k h in
-          reached-++ book s p r u (operand cl sl ap′ k) (i .0) _ (i .1) (reached-over book s r u (i .0) _ (mark-on Close (r .token) c) v (asked-over book s (is Close) r (i .0) _ (i .2) c)))
+          reached-++ book s p r u (operand cl sl ap′ k) (i .0) _ (i .1) (reached-over book s r u (i .0) _ (mark-on Close (r .token) c) v (asked-over book s (is Close) r (i .0) _ (i .2) c)),
+    )
 
     -- ── applications ──
 
@@ -252,10 +255,12 @@ module _ (book : List Name) where
         reached-++ book s p q r (start k) (operand none (y .0) (some (y .1)) k) _ (y .2) (reached-over book s q r _ _ (ap is-end t) w (at-most-step q (y .0) (y .1) e k t (y .3)))
 
     pub cmp-at-most : (p q r u : Stand) (e f : Expr) → ReadSum book names s p q e → q .token ≡ mark AtMost → Went s q r → ReadSum book names s r u f → starts-atom (u .token) ≡ false → is Plus (u .token) ≡ false → ReadExpr book names s p u (at-most e f)
-    cmp-at-most p q r u e f x t w y a b =
-        (through-++ s p q u (x .0) (through-++ s q r u (through-one s q r (ap is-end t) w) (y .0)), λ k h.
+    cmp-at-most p q r u e f x t w y a b = (
+      through-++ s p q u (x .0) (through-++ s q r u (through-one s q r (ap is-end t) w) (y .0)),
+      λ k h.
           let z = y .1 (some e) k h in
-          (operand (some e) (z .0) (some (z .1)) k, reached-++ book s p r u (start k) (operand (some e) none none k) _ (over-at-most p q r e x t w k h) (z .2), step-after (some e) (z .0) (z .1) k (u .token) a b tt ∙ ap (λ g. close (u .token) (at-most e g) k) (z .3)))
+          (operand (some e) (z .0) (some (z .1)) k, reached-++ book s p r u (start k) (operand (some e) none none k) _ (over-at-most p q r e x t w k h) (z .2), step-after (some e) (z .0) (z .1) k (u .token) a b tt ∙ ap (λ g. close (u .token) (at-most e g) k) (z .3)),
+    )
 
     pub cmp-at-most-unread : (p q : Stand) (e : Expr) (n place : ℕ) → ReadSum book names s p q e → q .token ≡ mark AtMost → Unread s (q .stop) n place → RefusedCmp book names s p n place
     cmp-at-most-unread p q e n place x t u k h z =
@@ -307,10 +312,12 @@ module _ (book : List Name) where
       -- a mark ends the frame's expression, and another frame begins
       module _ (m : Mark) (next : Frame) (e : Expr) (turns : (t : Token) (k : List Frame) → close t e (frame ∷ k) ≡ cond (is m t) (go (start (next ∷ k))) stuck) where
         pub partly-turn : (p q r u : Stand) → Partly p q (λ k. start (frame ∷ k)) → ReadExpr book inner s q r e → is m (r .token) ≡ true → Went s r u → Partly p u (λ k. start (next ∷ k))
-        partly-turn p q r u x y t w =
-            (through-++ s p q u (x .0) (through-++ s q r u (y .0) (through-one s r u (mark-on m (r .token) t) w)), λ k h.
+        partly-turn p q r u x y t w = (
+          through-++ s p q u (x .0) (through-++ s q r u (y .0) (through-one s r u (mark-on m (r .token) t) w)),
+          λ k h.
               let z = inner-state p q r e x y k h in
-              reached-++ book s p r u (start k) (z .0) _ (z .1) (reached-over book s r u (z .0) _ (mark-on m (r .token) t) w (asked-over book s (is m) r (z .0) _ (z .2 ∙ turns (r .token) k) t)))
+              reached-++ book s p r u (start k) (z .0) _ (z .1) (reached-over book s r u (z .0) _ (mark-on m (r .token) t) w (asked-over book s (is m) r (z .0) _ (z .2 ∙ turns (r .token) k) t)),
+        )
 
         pub partly-turn-missed : (p q r : Stand) (n place : ℕ) → Partly p q (λ k. start (frame ∷ k)) → ReadExpr book inner s q r e → Missed (is m) s r n place → RefusedExpr book names s p n place
         partly-turn-missed p q r n place x y u k h =

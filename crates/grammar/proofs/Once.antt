@@ -35,15 +35,19 @@ blank-token c cs h = by₁ (eqb c 32) refl
   where
     at : (d : ℕ) → c ≡ d → token (d ∷ cs) ≡ none → token (c ∷ cs) ≡ none
     at d e n = ap (λ x. token (x ∷ cs)) e ∙ n
+
     by₄ : (b : Bool) → eqb c 13 ≡ b → eqb c 32 ≡ false → eqb c 9 ≡ false → eqb c 10 ≡ false → token (c ∷ cs) ≡ none
     by₄ true e x y z = at 13 (eqb-true c 13 e) refl
     by₄ false e x y z = absurd (true≢false (sym h ∙ ap (λ b. b || (eqb c 9 || (eqb c 10 || eqb c 13))) x ∙ ap (λ b. b || (eqb c 10 || eqb c 13)) y ∙ ap (λ b. b || eqb c 13) z ∙ e))
+
     by₃ : (b : Bool) → eqb c 10 ≡ b → eqb c 32 ≡ false → eqb c 9 ≡ false → token (c ∷ cs) ≡ none
     by₃ true e x y = at 10 (eqb-true c 10 e) refl
     by₃ false e x y = by₄ (eqb c 13) refl x y e
+
     by₂ : (b : Bool) → eqb c 9 ≡ b → eqb c 32 ≡ false → token (c ∷ cs) ≡ none
     by₂ true e x = at 9 (eqb-true c 9 e) refl
     by₂ false e x = by₃ (eqb c 10) refl x e
+
     by₁ : (b : Bool) → eqb c 32 ≡ b → token (c ∷ cs) ≡ none
     by₁ true e = at 32 (eqb-true c 32 e) refl
     by₁ false e = by₂ (eqb c 9) refl e
@@ -62,9 +66,9 @@ module _ (s : List ℕ) where
       ⊎-elim
       (λ (lt : p < q). absurd (⊎-elim (λ (e : p ≡ length s). omega (arith, b .1)) (λ (z : (p < length s) × (blank (getD s p 0) ≡ true → ⊥)). z .1 (b .2 p (a .0) lt)) x))
       (λ (le : q ≤ p). ⊎-elim
-        (λ (lt : q < p). absurd (⊎-elim (λ (e : q ≡ length s). omega (arith, a .1)) (λ (z : (q < length s) × (blank (getD s q 0) ≡ true → ⊥)). z .1 (a .2 q (b .0) lt)) y))
-        (λ (ge : p ≤ q). omega arith)
-        (order q p))
+      (λ (lt : q < p). absurd (⊎-elim (λ (e : q ≡ length s). omega (arith, a .1)) (λ (z : (q < length s) × (blank (getD s q 0) ≡ true → ⊥)). z .1 (a .2 q (b .0) lt)) y))
+      (λ (ge : p ≤ q). omega arith)
+      (order q p))
       (order p q)
 
   next-stops : (from place stop : ℕ) (t : Token) → Next s from t place stop → Stops place
@@ -95,16 +99,16 @@ module _ (s : List ℕ) where
       let e = same-place from p p′ (a .0) (b .0) (next-stops from p q t a) (next-stops from p′ q′ t′ b) in
       ⊎-elim
       (λ (x : (t ≡ end) × (p ≡ length s) × (q ≡ p)). ⊎-elim
-        (λ (y : (t′ ≡ end) × (p′ ≡ length s) × (q′ ≡ p′)). let r : Same p q t p′ q′ t′ = record { places = e; stops = omega (arith, x .2, y .2); tokens = x .0 ∙ sym (y .0) } in r)
-        (λ (y : Longest s p′ q′ t′). absurd (omega (arith, x .1, y .some-bytes, y .inside)))
-        (b .1))
+      (λ (y : (t′ ≡ end) × (p′ ≡ length s) × (q′ ≡ p′)). let r : Same p q t p′ q′ t′ = record { places = e; stops = omega (arith, x .2, y .2); tokens = x .0 ∙ sym (y .0) } in r)
+      (λ (y : Longest s p′ q′ t′). absurd (omega (arith, x .1, y .some-bytes, y .inside)))
+      (b .1))
       (λ (x : Longest s p q t). ⊎-elim
-        (λ (y : (t′ ≡ end) × (p′ ≡ length s) × (q′ ≡ p′)). absurd (omega (arith, y .1, x .some-bytes, x .inside)))
-        (λ (y : Longest s p′ q′ t′).
-          let z = subst (λ i. Longest s i q′ t′) (sym e) y in
-          let f = same-stop p q q′ t t′ x z in
-          let r : Same p q t p′ q′ t′ = record { places = e; stops = f; tokens = same-some t t′ (sym (x .spells) ∙ ap (λ i. token (part s p i)) f ∙ z .spells) } in r)
-        (b .1))
+      (λ (y : (t′ ≡ end) × (p′ ≡ length s) × (q′ ≡ p′)). absurd (omega (arith, y .1, x .some-bytes, x .inside)))
+      (λ (y : Longest s p′ q′ t′).
+      let z = subst (λ i. Longest s i q′ t′) (sym e) y in
+      let f = same-stop p q q′ t t′ x z in
+      let r : Same p q t p′ q′ t′ = record { places = e; stops = f; tokens = same-some t t′ (sym (x .spells) ∙ ap (λ i. token (part s p i)) f ∙ z .spells) } in r)
+      (b .1))
       (a .1)
 
   no-both : (from p q p′ : ℕ) (t : Token) → Next s from t p q → NoNext s from p′ → ⊥
@@ -241,13 +245,13 @@ module _ (s : List ℕ) where
     ends-ends ts us to to′ n p n′ p′ a x b y =
         ⊎-elim
         (λ (o : Onward ts to us to′). ⊎-elim
-          (λ (e : (ts ≡ us) × (to ≡ to′)). ends-once us to′ n p n′ p′ (subst (λ l. Ends l to′ n p) (e .0) (subst (λ i. Ends ts i n p) (e .1) x)) y)
-          (λ (z : Beyond ts to). absurd (beyond-ends ts to n p z x))
-          (beyond o (b .begins)))
+        (λ (e : (ts ≡ us) × (to ≡ to′)). ends-once us to′ n p n′ p′ (subst (λ l. Ends l to′ n p) (e .0) (subst (λ i. Ends ts i n p) (e .1) x)) y)
+        (λ (z : Beyond ts to). absurd (beyond-ends ts to n p z x))
+        (beyond o (b .begins)))
         (λ (o : Onward us to′ ts to). ⊎-elim
-          (λ (e : (us ≡ ts) × (to′ ≡ to)). ends-once ts to n p n′ p′ x (subst (λ l. Ends l to n′ p′) (e .0) (subst (λ i. Ends us i n′ p′) (e .1) y)))
-          (λ (z : Beyond us to′). absurd (beyond-ends us to′ n′ p′ z y))
-          (beyond o (a .begins)))
+        (λ (e : (us ≡ ts) × (to′ ≡ to)). ends-once ts to n p n′ p′ x (subst (λ l. Ends l to n′ p′) (e .0) (subst (λ i. Ends us i n′ p′) (e .1) y)))
+        (λ (z : Beyond us to′). absurd (beyond-ends us to′ n′ p′ z y))
+        (beyond o (a .begins)))
         (compare (a .front) (b .front))
 
     sentence-tokens : (ts : List Token) (e : Expr) (x : Sentence (ts ++ end ∷ []) e) → Rattle.grammar.specs.Grammar.Derives Rattle.grammar.specs.Grammar.expr ts e

@@ -56,7 +56,6 @@ module _ (book : List Name) (s : List ℕ) (short : length s ≤ 4096) (room : �
   wrong-verdict ts p a n place b h (no-name {a′} x y) =
       verdict.unknown (sofar ts (b .to) a (b .front) h) (b .next) (b .in-range) (goes-begins book ts a a′ (p .token) h y) (unknown-begins book ts a (p .token) h x)
 
-
   pub first-unread : (n place : ℕ) → Unread s 0 n place → Verdict book s room (refused n place)
   first-unread n place u = unread-verdict [] 0 n place (sofar [] 0 (start []) none-yet refl) u
 

@@ -76,23 +76,25 @@ token-name w x h = subst (OwnSome w) h (own-token w) refl
 
 pub went-current : (s : List ℕ) (p q : Stand) → Went s p q → Current s q × (p .stop ≤ q .place)
 went-current s p q w =
-    let b = w .0 .0 in
-    (⊎-elim
-      (λ (e : (q .token ≡ end) × (q .place ≡ length s) × (q .stop ≡ q .place)). let r : Current s q = record {
-        forward = omega (arith, e .2);
-        inside = omega (arith, e .2, b .1);
-        some-bytes = λ h. absurd (true≢false (sym (ap is-end (e .0)) ∙ h));
-        named = λ x h. absurd (true≢false (sym (ap is-name (sym (e .0) ∙ h))));
-        in-range = w .1;
-      } in r)
-      (λ (l : Longest s (q .place) (q .stop) (q .token)). let r : Current s q = record {
-        forward = omega (arith, l .some-bytes);
-        inside = l .inside;
-        some-bytes = λ h. l .some-bytes;
-        named = λ x h. token-name _ x (l .spells ∙ ap some h);
-        in-range = w .1;
-      } in r)
-      (w .0 .1), b .0)
+    let b = w .0 .0 in (
+      ⊎-elim
+          (λ (e : (q .token ≡ end) × (q .place ≡ length s) × (q .stop ≡ q .place)). let r : Current s q = record {
+            forward = omega (arith, e .2);
+            inside = omega (arith, e .2, b .1);
+            some-bytes = λ h. absurd (true≢false (sym (ap is-end (e .0)) ∙ h));
+            named = λ x h. absurd (true≢false (sym (ap is-name (sym (e .0) ∙ h))));
+            in-range = w .1;
+          } in r)
+          (λ (l : Longest s (q .place) (q .stop) (q .token)). let r : Current s q = record {
+            forward = omega (arith, l .some-bytes);
+            inside = l .inside;
+            some-bytes = λ h. l .some-bytes;
+            named = λ x h. token-name _ x (l .spells ∙ ap some h);
+            in-range = w .1;
+          } in r)
+          (w .0 .1),
+      b .0,
+    )
 
 pub passes-current : (s : List ℕ) {p q : Stand} {ts : List Token} → Passes s p ts q → Current s p → Current s q × (p .place ≤ q .place)
 passes-current s here c = (c, omega arith)
@@ -156,7 +158,7 @@ module _ (book : List Name) (s : List ℕ) where
   missed-wrong asked on p a b n place h m =
       ⊎-elim
       (λ (x : (asked (p .token) ≡ false) × (n ≡ 55) × (place ≡ p .place)).
-        subst (λ i. Wrong book s p a i place) (sym (x .1)) (subst (Wrong book s p a 55) (sym (x .2)) (no-sentence (h ∙ ap (λ y. cond y (go b) stuck) (x .0)))))
+      subst (λ i. Wrong book s p a i place) (sym (x .1)) (subst (Wrong book s p a 55) (sym (x .2)) (no-sentence (h ∙ ap (λ y. cond y (go b) stuck) (x .0)))))
       (λ (x : (asked (p .token) ≡ true) × Unread s (p .stop) n place). unread (on (p .token) (x .0)) (asked-over asked p a b h (x .0)) (x .1))
       m
 

@@ -19,4 +19,3 @@ token-whole s stop t l e = ap token (sym (part-whole s) ∙ ap (part s 0) (sym e
 
 pub token-short : (s : List ℕ) (stop : ℕ) → NoneBeyond s 0 stop → stop < length s → token s ≡ none
 token-short s stop b h = ap token (sym (part-whole s)) ∙ b (length s) h (omega arith)
-

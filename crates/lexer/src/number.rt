@@ -25,7 +25,11 @@ fn positive(n: u64) -> Option<i32>
     requires { ⌜ n ≤ 2147483649 ⌝ }
     ensures { λ r. ⌜ Amount (pos n) r ⌝ }
 {
-    if n < 2_147_483_648 { Some(n as i32) } else { None }
+    if n < 2_147_483_648 {
+        Some(n as i32)
+    } else {
+        None
+    }
 }
 
 fn negative(n: u64) -> Option<i32>

@@ -139,7 +139,11 @@ fn scan<'a>(text: &'a [u8], from: usize) -> Result<Placed<'a>, usize>
     let place = Kind::Blank.run(text, from);
     if place >= text.len() {
         let token = Token::End;
-        return Ok(Placed { token, place, stop: place });
+        return Ok(Placed {
+            token,
+            place,
+            stop: place,
+        });
     }
     token_at(text, place)
 }

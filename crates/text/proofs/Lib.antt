@@ -1,6 +1,5 @@
 pub mod Opening
 pub mod Turns
-pub mod Growing
 pub mod Readiness
 pub mod Leaves
 pub mod Rules

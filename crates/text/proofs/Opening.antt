@@ -31,4 +31,3 @@ module _ (s : List ℕ) (ps : List Part) (x : Name) where
   pub length-opened : (n : ℕ) → length (opened s ps n) ≡ n
   length-opened zero = refl
   length-opened (suc n) = ap suc (length-opened n)
-

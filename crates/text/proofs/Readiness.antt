@@ -89,9 +89,9 @@ module _ (s : List ℕ) (a b : Scope) (x : Part) (counted : b .count ≡ a .coun
     room = omega (arith, counted, n);
     memory = ap length stored ∙ length-set (a .parts) (a .count) x ∙ r .memory;
     inside = λ i lt. ⊎-elim
-      (λ (h : i < a .count). subst (λ y. (y .place ≤ y .stop) × (y .stop ≤ length s)) (sym (put-below i h)) (r .inside i h))
-      (λ (h : a .count ≤ i). let e : i ≡ a .count = omega (arith, counted) in subst (λ y. (y .place ≤ y .stop) × (y .stop ≤ length s)) (sym (ap (part-at (b .parts)) e ∙ put-here)) (l, m))
-      (order i (a .count));
+        (λ (h : i < a .count). subst (λ y. (y .place ≤ y .stop) × (y .stop ≤ length s)) (sym (put-below i h)) (r .inside i h))
+        (λ (h : a .count ≤ i). let e : i ≡ a .count = omega (arith, counted) in subst (λ y. (y .place ≤ y .stop) × (y .stop ≤ length s)) (sym (ap (part-at (b .parts)) e ∙ put-here)) (l, m))
+        (order i (a .count));
   }
 
   -- what is restored to the scope with the name is restored without it

@@ -16,11 +16,11 @@ use Rattle.std.specs.declared.result.Result.the-variants.{Ok, Err}
 use Rattle.std.specs.Results.{ErrBy}
 use Rattle.text.specs.declared.fault.CompileFault.{CompileFault}
 use Rattle.text.specs.declared.fault.CompileFault.the-variants.{TooManyNodes, NoRoom}
-use Rattle.text.specs.declared.node.Table.{Table}
+use Rattle.nodes.specs.declared.node.Table.{Table}
 use Rattle.text.specs.declared.scope.Scope.{Scope}
 use Rattle.text.specs.Compiling.{Compiled, Held, Recorded}
 use Rattle.text.specs.Faults.{number, place}
-use Rattle.text.specs.Nodes.{Grown}
+use Rattle.nodes.specs.Nodes.{Grown}
 use Rattle.text.specs.Scopes.{opened, open-names}
 use Rattle.text.specs.Writing.{written}
 
@@ -57,8 +57,10 @@ recorded-verdict s book readings t before after (Ok n) e m x =
     let y = subst (λ k. Recorded k t before after (Ok n)) e x in
     (record-of (length book) t, verdict.a-record m (y .0) (y .1), y .2, y .3)
 recorded-verdict s book readings t before after (Err f) e m x =
-    let y = subst (λ k. Recorded k t before after (Err f)) e x in
-    (⊎-elim
-      (λ (h : (f ≡ TooManyNodes) × (512 < nodes t)). subst (λ g. Verdict book s (length before) (refused (number g) (place g))) (sym (h .0)) (verdict.too-many-nodes m (h .1)))
-      (λ (h : (f ≡ NoRoom) × (nodes t ≤ 512) × (length before < length (record-of (length book) t))). subst (λ g. Verdict book s (length before) (refused (number g) (place g))) (sym (h .0)) (verdict.no-room m (h .1) (h .2)))
-      (y .1), y .0)
+    let y = subst (λ k. Recorded k t before after (Err f)) e x in (
+      ⊎-elim
+          (λ (h : (f ≡ TooManyNodes) × (512 < nodes t)). subst (λ g. Verdict book s (length before) (refused (number g) (place g))) (sym (h .0)) (verdict.too-many-nodes m (h .1)))
+          (λ (h : (f ≡ NoRoom) × (nodes t ≤ 512) × (length before < length (record-of (length book) t))). subst (λ g. Verdict book s (length before) (refused (number g) (place g))) (sym (h .0)) (verdict.no-room m (h .1) (h .2)))
+          (y .1),
+      y .0,
+    )

@@ -25,15 +25,15 @@ use Rattle.std.specs.declared.result.Result.{Result}
 use Rattle.std.specs.declared.result.Result.the-variants.{Ok, Err}
 use Rattle.std.specs.Results.{ErrBy}
 use Rattle.text.specs.declared.fault.CompileFault.{CompileFault}
-use Rattle.text.specs.declared.node.Node.{Node}
-use Rattle.text.specs.declared.node.Node.the-variants.{Function, Application, LetIn, Sum, AtMost as AtMostNode, IfElse}
-use Rattle.text.specs.declared.node.Table.{Table}
+use Rattle.nodes.specs.declared.node.Node.{Node}
+use Rattle.nodes.specs.declared.node.Node.the-variants.{Function, Application, LetIn, Sum, AtMost as AtMostNode, IfElse}
+use Rattle.nodes.specs.declared.node.Table.{Table}
 use Rattle.text.specs.declared.parser.Parser.{Parser}
 use Rattle.text.specs.declared.scope.Part.{Part}
 use Rattle.text.specs.Faults.{number, place}
-use Rattle.text.specs.Nodes.{Pushed, Grown}
-use Rattle.text.specs.Parsing.{at, Advanced, Passed, Named, Parsed, ReadsExpr, ReadsBody, ReadsComparison, ReadsSum, ReadsApplication, ReadsAtom, Single, leaf, One}
-use Rattle.text.proofs.Growing.{grown-leaf, grown-function, grown-application, grown-let, grown-sum, grown-at-most, grown-if}
+use Rattle.nodes.specs.Nodes.{Pushed, Grown}
+use Rattle.text.specs.Parsing.{at, Advanced, Passed, Named, Parsed, ReadsExpr, ReadsBody, ReadsComparison, ReadsSum, ReadsApplication, ReadsAtom, Single, leaf}
+use Rattle.nodes.proofs.Growing.{grown-leaf, grown-function, grown-application, grown-let, grown-sum, grown-at-most, grown-if}
 use Rattle.text.proofs.Leaves.{leaf-fits, leaf-on}
 use Rattle.text.proofs.Turns.{Read, ApplicationSoFar, SumSoFar}
 
@@ -192,11 +192,14 @@ module _ (s : List ℕ) (B O : List Name) where
       plus-refused r w i j y = let x = sum-now in classes.sum-more-refused B (O ++ B) s (at p) (at now) (at r) (x .0) i j (x .2) (is-mark Plus (at now .token) m) (w .0) y
 
   pub sum-again : (first now r z : Parser) (T : Table) (root l a t : ℕ) → SumSoFar s B O first root now l → is Plus (at now .token) ≡ true → Advanced s now r (Ok tt) → ReadsApplication s B O r z (Ok a) → Pushed (z .table) T (Sum l a) t → SumSoFar s B O first root (onto z T) t
-  sum-again first now r z T root l a t o m w b g =
-      (through-++ s (at first) (at now) (at z) (o .0) (through-++ s (at now) (at r) (at z) (through-one s (at now) (at r) (mark-on Plus (at now .token) m) (w .0)) (b .2 .0 .0)), λ h. b .2 .1, λ p before x.
+  sum-again first now r z T root l a t o m w b g = (
+    through-++ s (at first) (at now) (at z) (o .0) (through-++ s (at now) (at r) (at z) (through-one s (at now) (at r) (mark-on Plus (at now .token) m) (w .0)) (b .2 .0 .0)),
+    λ h. b .2 .1,
+    λ p before x.
         let y = o .2 p before x in
         let read = classes.sum-more B (O ++ B) s p (at now) (at r) (at z) (y .0) (b .0) (y .2) (is-mark Plus (at now .token) m) (w .0) (b .2 .0) in
-        (G.plus (y .0) (b .0), sum (y .1) (b .1), read, two-some sum _ _ (y .1) (b .1) (y .3) (b .3), grown-sum before (now .table) (z .table) T l a t (y .1) (b .1) (y .4) (subst (λ k. Grown k (z .table) (b .1) a) (w .1) (b .4)) g))
+        (G.plus (y .0) (b .0), sum (y .1) (b .1), read, two-some sum _ _ (y .1) (b .1) (y .3) (b .3), grown-sum before (now .table) (z .table) T l a t (y .1) (b .1) (y .4) (subst (λ k. Grown k (z .table) (b .1) a) (w .1) (b .4)) g),
+  )
 
   -- ── applications ──
 
@@ -214,11 +217,13 @@ module _ (s : List ℕ) (B O : List Name) where
     argument-refused h i j y = let x = application-now in classes.app-more-refused B (O ++ B) s (at p) (at now) (x .0) i j (x .2) h y
 
   pub application-again : (first now z : Parser) (T : Table) (root l a t : ℕ) → ApplicationSoFar s B O first root now l → ReadsAtom s B O now z (Ok a) → Pushed (z .table) T (Application l a) t → ApplicationSoFar s B O first root (onto z T) t
-  application-again first now z T root l a t o b g =
-      (through-++ s (at first) (at now) (at z) (o .0) (b .2 .0), λ p before x.
+  application-again first now z T root l a t o b g = (
+    through-++ s (at first) (at now) (at z) (o .0) (b .2 .0),
+    λ p before x.
         let y = o .1 p before x in
         let read = classes.app-more B (O ++ B) s p (at now) (at z) (y .0) (b .0) (y .2) (b .2) in
-        (G.apply (y .0) (b .0), application (y .1) (b .1), read, two-some application _ _ (y .1) (b .1) (y .3) (b .3), grown-application before (now .table) (z .table) T l a t (y .1) (b .1) (y .4) (b .4) g))
+        (G.apply (y .0) (b .0), application (y .1) (b .1), read, two-some application _ _ (y .1) (b .1) (y .3) (b .3), grown-application before (now .table) (z .table) T l a t (y .1) (b .1) (y .4) (b .4) g),
+  )
 
   -- ── atoms ──
 
@@ -247,9 +252,9 @@ module _ (s : List ℕ) (B O : List Name) where
   leaf-refused p f h =
       ⊎-elim
       (λ (x : (number f ≡ 55) × (place f ≡ p .current .place) × (starts-atom (at p .token) ≡ false)).
-        subst (λ i. RefusedAtom B (O ++ B) s (at p) i (place f)) (sym (x .0)) (subst (RefusedAtom B (O ++ B) s (at p) 55) (sym (x .1)) (classes.atom-none B (O ++ B) s (at p) (x .2))))
+      subst (λ i. RefusedAtom B (O ++ B) s (at p) i (place f)) (sym (x .0)) (subst (RefusedAtom B (O ++ B) s (at p) 55) (sym (x .1)) (classes.atom-none B (O ++ B) s (at p) (x .2))))
       (λ (x : (number f ≡ 57) × (place f ≡ p .current .place) × ((y : Name) × (at p .token ≡ plain.name y) × (distance (O ++ B) y ≡ none))).
-        subst (λ i. RefusedAtom B (O ++ B) s (at p) i (place f)) (sym (x .0)) (subst (RefusedAtom B (O ++ B) s (at p) 57) (sym (x .1)) (classes.atom-unknown B (O ++ B) s (at p) (x .2 .0) (x .2 .1) (x .2 .2))))
+      subst (λ i. RefusedAtom B (O ++ B) s (at p) i (place f)) (sym (x .0)) (subst (RefusedAtom B (O ++ B) s (at p) 57) (sym (x .1)) (classes.atom-unknown B (O ++ B) s (at p) (x .2 .0) (x .2 .1) (x .2 .2))))
       h
 
   module _ (p : Parser) (n : Node) (l : Single (O ++ B) (at p) (Ok n)) where

@@ -11,9 +11,9 @@ use Rattle.grammar.specs.Grammar.{Expr}
 use Rattle.grammar.specs.Names.{resolved}
 use Rattle.grammar.specs.Token.{Name}
 use Rattle.grammar.specs.Walking.{Stand, Through}
-use Rattle.text.specs.declared.node.Table.{Table}
+use Rattle.nodes.specs.declared.node.Table.{Table}
 use Rattle.text.specs.declared.parser.Parser.{Parser}
-use Rattle.text.specs.Nodes.{Grown}
+use Rattle.nodes.specs.Nodes.{Grown}
 use Rattle.text.specs.Parsing.{at}
 
 -- a class was read from p, with its nodes put behind those of a table

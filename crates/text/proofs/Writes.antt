@@ -8,9 +8,9 @@ use Prim.Native.Nat.{ℕ, suc, _+_, _≤_, _<_}
 use Rattle.std.proofs.shelf.Lists.{set-split, take-at, drop-at, drop-drop, take-append-drop}
 use Rattle.syntax.specs.Tree.{Tree, number, truth, variable, function, application, let-in, sum, at-most, if-else}
 use Rattle.syntax.specs.Record.{encode}
-use Rattle.text.specs.declared.node.Node.{Node}
-use Rattle.text.specs.declared.node.Node.the-variants.{Number, Truth, Variable, Function, Application, LetIn, Sum, AtMost, IfElse}
-use Rattle.text.specs.Nodes.{at, Holds}
+use Rattle.nodes.specs.declared.node.Node.{Node}
+use Rattle.nodes.specs.declared.node.Node.the-variants.{Number, Truth, Variable, Function, Application, LetIn, Sum, AtMost, IfElse}
+use Rattle.nodes.specs.Nodes.{at, Holds}
 use Rattle.text.specs.Writing.{written}
 
 -- ── bytes ──

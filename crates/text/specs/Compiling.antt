@@ -12,8 +12,8 @@ use Rattle.std.specs.declared.result.Result.{Result}
 use Rattle.std.specs.declared.result.Result.the-variants.{Ok, Err}
 use Rattle.text.specs.declared.fault.CompileFault.{CompileFault}
 use Rattle.text.specs.declared.fault.CompileFault.the-variants.{TooManyNodes, NoRoom}
-use Rattle.text.specs.declared.node.Table.{Table}
-use Rattle.text.specs.Nodes.{Holds}
+use Rattle.nodes.specs.declared.node.Table.{Table}
+use Rattle.nodes.specs.Nodes.{Holds}
 use Rattle.text.specs.Faults.{number, place}
 
 -- The verdict on the text, with its number and place. A record stands at the front of the buffer, and

@@ -1,4 +1,3 @@
-pub mod Nodes
 pub mod Scopes
 pub mod Faults
 pub mod Parsing

@@ -21,14 +21,13 @@ use Rattle.std.specs.declared.result.Result.the-variants.{Ok, Err}
 use Rattle.lexer.specs.declared.fault.LexFault.{LexFault}
 use Rattle.text.specs.declared.fault.CompileFault.{CompileFault}
 use Rattle.text.specs.declared.fault.CompileFault.the-variants.{Lex}
-use Rattle.text.specs.declared.node.Node.{Node}
-use Rattle.text.specs.declared.node.Node.the-variants.{Number, Truth, Variable}
+use Rattle.nodes.specs.declared.node.Node.{Node}
 use Rattle.text.specs.declared.parser.Parser.{Parser}
 use Rattle.text.specs.declared.scope.Part.{Part}
 use Rattle.text.specs.declared.scope.Scope.{Scope}
 use Rattle.lexer.specs.declared.token.Placed.{Placed}
 use Rattle.text.specs.Faults.{number, place}
-use Rattle.text.specs.Nodes.{Grown}
+use Rattle.nodes.specs.Nodes.{Grown, One}
 use Rattle.text.specs.Scopes.{Inside}
 use Rattle.lexer.specs.Shown.{shown}
 
@@ -109,18 +108,6 @@ leaf (plain.mark Close) = none
 leaf (plain.name x) = some (used x)
 leaf (plain.numeral z) = some (literal z)
 leaf plain.end = none
-
--- the node of a tree of one node
-abbrev pub One : Node → Tree → Type 0
-One n (Tree.number k) = n ≡ Number k
-One n (Tree.truth b) = n ≡ Truth b
-One n (Tree.variable d) = n ≡ Variable d
-One n (Tree.function a) = ⊥
-One n (Tree.application a b) = ⊥
-One n (Tree.let-in a b) = ⊥
-One n (Tree.sum a b) = ⊥
-One n (Tree.at-most a b) = ⊥
-One n (Tree.if-else a b c) = ⊥
 
 -- the node of an atom that is one token, or why it is none: no atom begins here, or a name is not in force
 abbrev pub Single : List plain.Name → Stand → Result Node CompileFault → Type 0

@@ -5,8 +5,8 @@ use lib.ListN.{length, take, drop}
 use Prim.Native.Nat.{ℕ, _+_, _≤_, _<_}
 use Rattle.syntax.specs.Tree.{Tree}
 use Rattle.syntax.specs.Record.{encode}
-use Rattle.text.specs.declared.node.Node.{Node}
-use Rattle.text.specs.Nodes.{Holds}
+use Rattle.nodes.specs.declared.node.Node.{Node}
+use Rattle.nodes.specs.Nodes.{Holds}
 
 -- bytes written over a buffer from a place on
 abbrev pub written : List ℕ → ℕ → List ℕ → List ℕ

@@ -1,23 +1,23 @@
 //! From a text to its record.
 ghost use mathlib.Core.Path.{_≡_};
-ghost use lib.Dec.{ltb};
+ghost use lib.Dec.{leb, ltb};
 ghost use lib.ListN.{length};
 ghost use Prim.Native.Nat.{_≤_};
 ghost use Rattle.syntax.specs.Tree.{Tree};
 ghost use Rattle.book.specs.Books.{names};
 ghost use Rattle.text.specs.Compiling.{Compiled, Held, Recorded};
 use crate::fault::CompileFault;
-use book::name::Book;
-use crate::node::MOST_NODES;
-use crate::node::Table;
 use crate::parser::Parser;
 use crate::refusal::CompileFaultFromLex;
 use crate::scope::Scope;
-use lexer::token::Placed;
-use lexer::token::Token;
 use crate::write::put;
 use crate::write::put_two;
 use crate::write::write;
+use book::name::Book;
+use lexer::token::Placed;
+use lexer::token::Token;
+use nodes::node::MOST_NODES;
+use nodes::node::Table;
 
 /// How many bytes a text may have.
 const MOST_TEXT: usize = 4_096;
@@ -37,8 +37,15 @@ pub fn compile(text: &[u8], book: &Book, out: &mut [u8]) -> Result<usize, Compil
     if is_too_long(text) {
         return Err(CompileFault::TooLong);
     }
-    let current = Placed { token: Token::End, place: 0, stop: 0 };
-    let mut parser = Parser { current, table: Table::new() };
+    let current = Placed {
+        token: Token::End,
+        place: 0,
+        stop: 0,
+    };
+    let mut parser = Parser {
+        current,
+        table: Table::new(),
+    };
     parser.advance(text)?;
     let mut scope = Scope::new();
     let root = parser.expr(text, book, &mut scope)?;
@@ -49,8 +56,19 @@ pub fn compile(text: &[u8], book: &Book, out: &mut [u8]) -> Result<usize, Compil
     record(&table, root, book.readings(), out)
 }
 
+fn fits(length: usize, room: usize) -> bool
+    ensures { λ r. ⌜ r ≡ leb length room ⌝ }
+{
+    length <= room
+}
+
 /// Writes the record of a tree that was read.
-fn record(table: &Table, root: usize, readings: usize, out: &mut [u8]) -> Result<usize, CompileFault>
+fn record(
+    table: &Table,
+    root: usize,
+    readings: usize,
+    out: &mut [u8],
+) -> Result<usize, CompileFault>
     requires few { ⌜ readings ≤ 8 ⌝ }
     requires held { ⌜ ((t : Tree) × Held (now table) t root) ⌝ }
     ensures { λ r. ⌜ ((t : Tree) → Held (now (table .entry)) t root → Recorded readings t (now (out .entry)) (now (out .exit)) r) ⌝ }
@@ -59,7 +77,7 @@ fn record(table: &Table, root: usize, readings: usize, out: &mut [u8]) -> Result
         return Err(CompileFault::TooManyNodes);
     }
     let length = 4 + table.bytes;
-    if length > out.len() {
+    if !fits(length, out.len()) {
         return Err(CompileFault::NoRoom);
     }
     let at = put_two(out, 0, 2 + table.bytes);

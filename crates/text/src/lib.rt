@@ -8,9 +8,7 @@
 //! only, and the buffer holds the record of the text's one tree and behind it what it held before.
 pub mod compile;
 pub mod fault;
-mod node;
 mod parser;
 pub mod refusal;
 mod scope;
-mod table;
 mod write;

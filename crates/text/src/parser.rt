@@ -11,20 +11,20 @@ ghost use mathlib.Core.Bool.{false};
 ghost use mathlib.Core.List.{_++_};
 ghost use Rattle.grammar.specs.declared.Mark.the-variants.{Fun, Let, If, Open};
 use crate::fault::CompileFault;
-use lexer::fault::LexFault;
-use lexer::scan::next_token;
-use book::name::Book;
-use crate::node::Node;
-use crate::node::Table;
-use lexer::number::amount;
 use crate::refusal::CompileFaultFromLex;
-use crate::scope::distance;
 use crate::scope::Opened;
 use crate::scope::Part;
 use crate::scope::Scope;
+use crate::scope::distance;
+use book::name::Book;
+use grammar::Mark;
+use lexer::fault::LexFault;
+use lexer::number::amount;
+use lexer::scan::next_token;
 use lexer::token::Placed;
 use lexer::token::Token;
-use grammar::Mark;
+use nodes::node::Node;
+use nodes::node::Table;
 
 /// The token in hand, and the nodes of what has been read.
 #[derive(Drop)]
@@ -73,7 +73,12 @@ impl<'a> Parser<'a> {
 
 impl<'a> Parser<'a> {
     /// `fun name -> expr`, `let name = expr in expr`, `if expr then expr else expr`, or a comparison.
-    pub(crate) fn expr(&mut self, text: &'a [u8], book: &Book, scope: &mut Scope) -> Result<usize, CompileFault>
+    pub(crate) fn expr(
+        &mut self,
+        text: &'a [u8],
+        book: &Book,
+        scope: &mut Scope,
+    ) -> Result<usize, CompileFault>
         requires { ⌜ Ready (now text) (now self) (now scope) ⌝ }
         ensures restored { λ _. ⌜ Restored (now (scope .entry)) (now (scope .exit)) ⌝ }
         ensures reads { λ r. ⌜ ReadsExpr (now (text .entry)) (names (now (book .entry))) (open-names (now (text .entry)) (now (scope .entry))) (now (self .entry)) (now (self .exit)) r ⌝ }
@@ -87,7 +92,12 @@ impl<'a> Parser<'a> {
     }
 
     /// `fun name -> expr`
-    fn function(&mut self, text: &'a [u8], book: &Book, scope: &mut Scope) -> Result<usize, CompileFault>
+    fn function(
+        &mut self,
+        text: &'a [u8],
+        book: &Book,
+        scope: &mut Scope,
+    ) -> Result<usize, CompileFault>
         requires ready { ⌜ Ready (now text) (now self) (now scope) ⌝ }
         requires begins { ⌜ at (now self) .token ≡ mark Fun ⌝ }
         ensures restored { λ _. ⌜ Restored (now (scope .entry)) (now (scope .exit)) ⌝ }
@@ -101,7 +111,12 @@ impl<'a> Parser<'a> {
     }
 
     /// `let name = expr in expr`; the name opens behind `in`.
-    fn let_in(&mut self, text: &'a [u8], book: &Book, scope: &mut Scope) -> Result<usize, CompileFault>
+    fn let_in(
+        &mut self,
+        text: &'a [u8],
+        book: &Book,
+        scope: &mut Scope,
+    ) -> Result<usize, CompileFault>
         requires ready { ⌜ Ready (now text) (now self) (now scope) ⌝ }
         requires begins { ⌜ at (now self) .token ≡ mark Let ⌝ }
         ensures restored { λ _. ⌜ Restored (now (scope .entry)) (now (scope .exit)) ⌝ }
@@ -117,7 +132,12 @@ impl<'a> Parser<'a> {
     }
 
     /// `if expr then expr else expr`
-    fn if_else(&mut self, text: &'a [u8], book: &Book, scope: &mut Scope) -> Result<usize, CompileFault>
+    fn if_else(
+        &mut self,
+        text: &'a [u8],
+        book: &Book,
+        scope: &mut Scope,
+    ) -> Result<usize, CompileFault>
         requires ready { ⌜ Ready (now text) (now self) (now scope) ⌝ }
         requires begins { ⌜ at (now self) .token ≡ mark If ⌝ }
         ensures restored { λ _. ⌜ Restored (now (scope .entry)) (now (scope .exit)) ⌝ }
@@ -133,7 +153,13 @@ impl<'a> Parser<'a> {
     }
 
     /// An expression with one name more in force. The guard closes the name on every way out.
-    fn body(&mut self, text: &'a [u8], book: &Book, scope: &mut Scope, name: Part) -> Result<usize, CompileFault>
+    fn body(
+        &mut self,
+        text: &'a [u8],
+        book: &Book,
+        scope: &mut Scope,
+        name: Part,
+    ) -> Result<usize, CompileFault>
         requires ready { ⌜ Ready (now text) (now self) (now scope) ⌝ }
         requires lies { ⌜ name .place ≤ name .stop ⌝ ∗ ⌜ name .stop ≤ length (now text) ⌝ }
         requires room { ⌜ 3 * now scope .count + 3 ≤ now self .current .place ⌝ }
@@ -147,7 +173,12 @@ impl<'a> Parser<'a> {
     }
 
     /// `sum`, or `sum <= sum`
-    fn comparison(&mut self, text: &'a [u8], book: &Book, scope: &mut Scope) -> Result<usize, CompileFault>
+    fn comparison(
+        &mut self,
+        text: &'a [u8],
+        book: &Book,
+        scope: &mut Scope,
+    ) -> Result<usize, CompileFault>
         requires { ⌜ Ready (now text) (now self) (now scope) ⌝ }
         ensures restored { λ _. ⌜ Restored (now (scope .entry)) (now (scope .exit)) ⌝ }
         ensures reads { λ r. ⌜ ReadsComparison (now (text .entry)) (names (now (book .entry))) (open-names (now (text .entry)) (now (scope .entry))) (now (self .entry)) (now (self .exit)) r ⌝ }
@@ -177,7 +208,12 @@ impl<'a> Parser<'a> {
     }
 
     /// `atom`, or `app atom`: applications group to the left.
-    fn application(&mut self, text: &'a [u8], book: &Book, scope: &mut Scope) -> Result<usize, CompileFault>
+    fn application(
+        &mut self,
+        text: &'a [u8],
+        book: &Book,
+        scope: &mut Scope,
+    ) -> Result<usize, CompileFault>
         requires { ⌜ Ready (now text) (now self) (now scope) ⌝ }
         ensures restored { λ _. ⌜ Restored (now (scope .entry)) (now (scope .exit)) ⌝ }
         ensures reads { λ r. ⌜ ReadsApplication (now (text .entry)) (names (now (book .entry))) (open-names (now (text .entry)) (now (scope .entry))) (now (self .entry)) (now (self .exit)) r ⌝ }
@@ -191,7 +227,12 @@ impl<'a> Parser<'a> {
     }
 
     /// A number, `true`, `false`, a name, or `( expr )`.
-    fn atom(&mut self, text: &'a [u8], book: &Book, scope: &mut Scope) -> Result<usize, CompileFault>
+    fn atom(
+        &mut self,
+        text: &'a [u8],
+        book: &Book,
+        scope: &mut Scope,
+    ) -> Result<usize, CompileFault>
         requires { ⌜ Ready (now text) (now self) (now scope) ⌝ }
         ensures restored { λ _. ⌜ Restored (now (scope .entry)) (now (scope .exit)) ⌝ }
         ensures reads { λ r. ⌜ ReadsAtom (now (text .entry)) (names (now (book .entry))) (open-names (now (text .entry)) (now (scope .entry))) (now (self .entry)) (now (self .exit)) r ⌝ }

@@ -37,7 +37,10 @@ impl Drop for Opened<'_> {
         ensures { λ _. ⌜ now (self .exit .0) .count ≡ self .entry .before ⌝ ∗ ⌜ now (self .exit .0) .parts ≡ now (self .entry .scope) .parts ⌝ }
     {
         self.scope.count = self.before;
-        let Opened { scope: _, before: _ } = self;
+        let Opened {
+            scope: _,
+            before: _,
+        } = self;
     }
 }
 

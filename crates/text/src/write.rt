@@ -5,7 +5,7 @@ ghost use lib.ListN.{length, set};
 ghost use Prim.Native.Nat.{_+_, _/_, _%_, _≤_, _<_};
 ghost use Rattle.syntax.specs.Record.{two-bytes, four-bytes};
 ghost use Rattle.text.specs.Writing.{written, Fits, Wrote, FitsTwo, WroteTwo};
-use crate::node::Node;
+use nodes::node::Node;
 
 /// Puts one byte, and answers the place behind it.
 pub(crate) fn put(out: &mut [u8], at: usize, byte: u8) -> usize
@@ -83,7 +83,15 @@ pub(crate) fn write(nodes: &[Node], root: usize, out: &mut [u8], from: usize) ->
 }
 
 /// Writes a node with two children.
-fn pair(nodes: &[Node], kind: u8, left: usize, right: usize, root: usize, out: &mut [u8], from: usize) -> usize
+fn pair(
+    nodes: &[Node],
+    kind: u8,
+    left: usize,
+    right: usize,
+    root: usize,
+    out: &mut [u8],
+    from: usize,
+) -> usize
     requires below { ⌜ left < root ⌝ ∗ ⌜ right < root ⌝ }
     requires fits { ⌜ FitsTwo (now nodes) left right (now out) from ⌝ }
     ensures { λ r. ⌜ WroteTwo (now (nodes .entry)) left right kind (now (out .entry)) (now (out .exit)) from r ⌝ }

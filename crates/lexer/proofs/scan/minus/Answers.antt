@@ -19,8 +19,10 @@ returns-then-has c =
     (made .0, placed _ _ _ _ (c .number .result) (refl, made .1 .1) (longest-negative _ _ _ (c .if-place-text .taken) (c .pre .1) (sym (c .if-has .ensures tt)) (made .1 .0)))
 
 pub returns : need.returns
-returns c =
-    (refl, no-minus (c .args .text .now) (c .args .place) (c .pre .1) (c .if-followed-by .ensures tt) (λ lt. elim (c .else-place-text .came) [
-      else-place-text·by·then-place-text·else-has w ↦ sym (w .if-has .ensures tt)
-      | else-place-text·by·else-place-text w ↦ absurd (omega (arith, w .if-place-text .left))
-    ]))
+returns c = (
+  refl,
+  no-minus (c .args .text .now) (c .args .place) (c .pre .1) (c .if-followed-by .ensures tt) (λ lt. elim (c .else-place-text .came) [
+    | else-place-text·by·then-place-text·else-has w ↦ sym (w .if-has .ensures tt)
+    | else-place-text·by·else-place-text w ↦ absurd (omega (arith, w .if-place-text .left))
+  ]),
+)

@@ -40,11 +40,13 @@ returns-in-48-to-57 c =
     (made .0, placed _ _ _ _ (c .number .result) (refl, made .1 .1) (longest-number _ _ _ (c .pre) (grind (arith, tells)) (made .1 .0)))
 
 pub returns-in-rest : need.returns-in-rest
-returns-in-rest c =
-    (refl, elim (c .in-rest .came) [
-      in-rest·by·in-60·else-followed-by w ↦ no-less (c .args .text .now) (c .args .place) (w .in-60 .is) (w .if-followed-by .ensures tt)
-      | in-rest·by·in-rest··then-this-lt48 w ↦ no-token (c .args .text .now) (c .args .place) (grind (arith, tells)) (grind (arith, tells)) (grind (arith, tells)) (grind (arith, tells)) (grind (arith, tells)) (grind (arith, tells)) (grind (arith, tells)) (grind (arith, tells))
-      | in-rest·by·in-rest··else-this-lt48·else-this-lt58·then-this-lt65 w ↦ no-token (c .args .text .now) (c .args .place) (grind (arith, tells)) (grind (arith, tells)) (grind (arith, tells)) (grind (arith, tells)) (grind (arith, tells)) (grind (arith, tells)) (grind (arith, tells)) (grind (arith, tells))
-      | in-rest·by·in-rest··else-this-lt48·else-this-lt58·else-this-lt65·else-this-lt91·then-this-lt97 w ↦ no-token (c .args .text .now) (c .args .place) (grind (arith, tells)) (grind (arith, tells)) (grind (arith, tells)) (grind (arith, tells)) (grind (arith, tells)) (grind (arith, tells)) (grind (arith, tells)) (grind (arith, tells))
-      | in-rest·by·in-rest··else-this-lt48·else-this-lt58·else-this-lt65·else-this-lt91·else-this-lt97·else-this-lt123 w ↦ no-token (c .args .text .now) (c .args .place) (grind (arith, tells)) (grind (arith, tells)) (grind (arith, tells)) (grind (arith, tells)) (grind (arith, tells)) (grind (arith, tells)) (grind (arith, tells)) (grind (arith, tells))
-    ])
+returns-in-rest c = (
+  refl,
+  elim (c .in-rest .came) [
+    | in-rest·by·in-60·else-followed-by w ↦ no-less (c .args .text .now) (c .args .place) (w .in-60 .is) (w .if-followed-by .ensures tt)
+    | in-rest·by·in-rest··then-this-lt48 w ↦ no-token (c .args .text .now) (c .args .place) (grind (arith, tells)) (grind (arith, tells)) (grind (arith, tells)) (grind (arith, tells)) (grind (arith, tells)) (grind (arith, tells)) (grind (arith, tells)) (grind (arith, tells))
+    | in-rest·by·in-rest··else-this-lt48·else-this-lt58·then-this-lt65 w ↦ no-token (c .args .text .now) (c .args .place) (grind (arith, tells)) (grind (arith, tells)) (grind (arith, tells)) (grind (arith, tells)) (grind (arith, tells)) (grind (arith, tells)) (grind (arith, tells)) (grind (arith, tells))
+    | in-rest·by·in-rest··else-this-lt48·else-this-lt58·else-this-lt65·else-this-lt91·then-this-lt97 w ↦ no-token (c .args .text .now) (c .args .place) (grind (arith, tells)) (grind (arith, tells)) (grind (arith, tells)) (grind (arith, tells)) (grind (arith, tells)) (grind (arith, tells)) (grind (arith, tells)) (grind (arith, tells))
+    | in-rest·by·in-rest··else-this-lt48·else-this-lt58·else-this-lt65·else-this-lt91·else-this-lt97·else-this-lt123 w ↦ no-token (c .args .text .now) (c .args .place) (grind (arith, tells)) (grind (arith, tells)) (grind (arith, tells)) (grind (arith, tells)) (grind (arith, tells)) (grind (arith, tells)) (grind (arith, tells)) (grind (arith, tells))
+  ],
+)

@@ -33,7 +33,7 @@ returns-in-102-2 c = rw (word-tested (c .args .word .now)) (grind (arith, tells)
 pub returns-in-rest : need.returns-in-rest
 returns-in-rest c =
     rw (word-tested (c .args .word .now)) (elim (c .in-rest .came) [
-      in-rest·by·then-word-lt2 w ↦ grind (arith, tells)
+      | in-rest·by·then-word-lt2 w ↦ grind (arith, tells)
       | in-rest·by·else-word-lt2·then-word-lt3·in-105··in-rest· w ↦ grind (arith, tells)
       | in-rest·by·else-word-lt2·then-word-lt3·in-rest· w ↦ grind (arith, tells)
       | in-rest·by·else-word-lt2·else-word-lt3·then-word-lt4·in-102··in-117··in-rest· w ↦ grind (arith, tells)

@@ -16,7 +16,7 @@ use Rattle.std.specs.declared.result.Result.the-variants.{Ok}
 use Rattle.text.specs.declared.fault.CompileFault.the-variants.{Lex}
 use Rattle.book.specs.Books.{names}
 use Rattle.text.specs.Faults.{number, place}
-use Rattle.text.specs.Nodes.{Grown}
+use Rattle.nodes.specs.Nodes.{Grown}
 use Rattle.text.specs.Parsing.{at, stand}
 use Rattle.text.specs.Scopes.{open-names}
 use Rattle.text.proofs.Records.{exit-compile, grown-held, none-open, recorded-verdict}

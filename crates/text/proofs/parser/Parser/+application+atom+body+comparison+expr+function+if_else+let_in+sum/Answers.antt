@@ -13,7 +13,7 @@ use Rattle.std.specs.declared.result.Result.the-variants.{Ok}
 use Rattle.text.specs.declared.fault.CompileFault.the-variants.{Lex}
 use Rattle.book.specs.Books.{names}
 use Rattle.text.specs.Faults.{number, place}
-use Rattle.text.specs.Nodes.{Pushed}
+use Rattle.nodes.specs.Nodes.{Pushed}
 use Rattle.text.specs.Parsing.{at, ReadsExpr, ReadsBody, ReadsSum, ReadsApplication, ReadsAtom}
 use Rattle.text.specs.Scopes.{open-names}
 use Rattle.text.proofs.Readiness.{restored-refl, restored-trans, restored-names, ready-on, ready-after, further, not-back, inside-text, put-names, put-ready, put-restored, atom-further}

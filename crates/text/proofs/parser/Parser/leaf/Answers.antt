@@ -7,7 +7,7 @@ use Rattle.syntax.specs.Tree.{Tree}
 use Rattle.grammar.specs.Grammar.{boolean, literal, used}
 use Rattle.grammar.specs.Names.{variable-at}
 use Rattle.grammar.specs.Token as plain
-use Rattle.text.specs.declared.node.Node.the-variants.{Number}
+use Rattle.nodes.specs.declared.node.Node.the-variants.{Number}
 use Rattle.text.specs.Parsing.{leaf}
 use Rattle.lexer.specs.Shown.{shown, value}
 use Rattle.text.proofs.parser.Parser.leaf.Needs as need

@@ -7,9 +7,9 @@ use lib.ListN.{length, getD, set, take}
 use Prim.Native.Nat.{ℕ, min, _+_, _≤_, _<_}
 use Rattle.syntax.specs.Tree.{Tree, nodes, number, truth, variable, function, application, let-in, sum, at-most, if-else}
 use Rattle.syntax.specs.Record.{encode}
-use Rattle.text.specs.declared.node.Node.{Node}
-use Rattle.text.specs.declared.node.Node.the-variants.{Number, Truth, Variable, Function, Application, LetIn, Sum, AtMost, IfElse}
-use Rattle.text.specs.declared.node.Table.{Table}
+use Rattle.nodes.specs.declared.node.Node.{Node}
+use Rattle.nodes.specs.declared.node.Node.the-variants.{Number, Truth, Variable, Function, Application, LetIn, Sum, AtMost, IfElse}
+use Rattle.nodes.specs.declared.node.Table.{Table}
 
 -- how many bytes a node takes in a record, its children apart
 abbrev pub width : Node → ℕ
@@ -51,3 +51,15 @@ pub record Grown (before after : Table) (t : Tree) (root : ℕ) : Type 0 where
   pub inside : after .count ≤ 512 → root < after .count
   pub holds : after .count ≤ 512 → Holds (after .nodes) root t
   pub kept : after .count ≤ 512 → (i : ℕ) → i < before .count → at (after .nodes) i ≡ at (before .nodes) i
+
+-- the node of a tree of one node
+abbrev pub One : Node → Tree → Type 0
+One n (number k) = n ≡ Number k
+One n (truth b) = n ≡ Truth b
+One n (variable d) = n ≡ Variable d
+One n (function a) = ⊥
+One n (application a b) = ⊥
+One n (let-in a b) = ⊥
+One n (sum a b) = ⊥
+One n (at-most a b) = ⊥
+One n (if-else a b c) = ⊥

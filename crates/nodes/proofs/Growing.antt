@@ -10,11 +10,10 @@ use native.Mathlib.Omega.{arith}
 use Prim.Native.Nat.{ℕ, _+_, _≤_, _<_}
 use Rattle.syntax.specs.Tree.{Tree, nodes, number, truth, variable, function, application, let-in, sum, at-most, if-else}
 use Rattle.syntax.specs.Record.{encode}
-use Rattle.text.specs.declared.node.Node.{Node}
-use Rattle.text.specs.declared.node.Node.the-variants.{Number, Truth, Variable, Function, Application, LetIn, Sum, AtMost, IfElse}
-use Rattle.text.specs.declared.node.Table.{Table}
-use Rattle.text.specs.Nodes.{width, at, Holds, Pushed, Grown}
-use Rattle.text.specs.Parsing.{One}
+use Rattle.nodes.specs.declared.node.Node.{Node}
+use Rattle.nodes.specs.declared.node.Node.the-variants.{Number, Truth, Variable, Function, Application, LetIn, Sum, AtMost, IfElse}
+use Rattle.nodes.specs.declared.node.Table.{Table}
+use Rattle.nodes.specs.Nodes.{width, at, Holds, Pushed, Grown, One}
 
 -- a tree stays where the nodes below a bound stay
 pub holds-kept : (t : Tree) (ns ms : List Node) (n i : ℕ) → i < n → ((j : ℕ) → j < n → at ms j ≡ at ns j) → Holds ns i t → Holds ms i t
@@ -85,27 +84,27 @@ grown-function t₀ t₁ t₂ a r t g p =
 
 -- the four nodes with two children
 module _
-  (mk : ℕ → ℕ → Node)
-  (tree : Tree → Tree → Tree)
-  (narrow : (a b : ℕ) → width (mk a b) ≡ 1)
-  (all : (t u : Tree) → nodes (tree t u) ≡ 1 + (nodes t + nodes u))
-  (long : (t u : Tree) → length (encode (tree t u)) ≡ 1 + (length (encode t) + length (encode u)))
-  (held : (ns : List Node) (i a b : ℕ) (t u : Tree) → a < i → b < i → at ns i ≡ mk a b → Holds ns a t → Holds ns b u → Holds ns i (tree t u))
+    (mk : ℕ → ℕ → Node)
+    (tree : Tree → Tree → Tree)
+    (narrow : (a b : ℕ) → width (mk a b) ≡ 1)
+    (all : (t u : Tree) → nodes (tree t u) ≡ 1 + (nodes t + nodes u))
+    (long : (t u : Tree) → length (encode (tree t u)) ≡ 1 + (length (encode t) + length (encode u)))
+    (held : (ns : List Node) (i a b : ℕ) (t u : Tree) → a < i → b < i → at ns i ≡ mk a b → Holds ns a t → Holds ns b u → Holds ns i (tree t u))
   where
-  pub grown-two : (t₀ t₁ t₂ t₃ : Table) (a b r : ℕ) (t u : Tree) → Grown t₀ t₁ t a → Grown t₁ t₂ u b → Pushed t₂ t₃ (mk a b) r → Grown t₀ t₃ (tree t u) r
-  grown-two t₀ t₁ t₂ t₃ a b r t u g g′ p =
-      let n = mk a b in
-      let few₂ : t₃ .count ≤ 512 → t₂ .count ≤ 512 = λ h. omega (arith, push-room t₂ t₃ n r p h) in
-      let few₁ : t₃ .count ≤ 512 → t₁ .count ≤ t₂ .count = λ h. omega (arith, few₂ h, g′ .counted) in
-      let few₁′ : t₃ .count ≤ 512 → t₁ .count ≤ 512 = λ h. omega (arith, few₂ h, few₁ h) in
-      let below : (h : t₃ .count ≤ 512) (i : ℕ) → i < t₁ .count → at (t₃ .nodes) i ≡ at (t₁ .nodes) i = λ h i lt. push-below t₂ t₃ n r p h i (omega (arith, few₁ h)) ∙ g′ .kept (few₂ h) i lt in
-      record {
-        counted = omega (arith, g .counted, g′ .counted, p .counted, all t u);
-        wider = λ h. omega (arith, push-wider t₂ t₃ n r p h, narrow a b, g .wider (few₁′ h), g′ .wider (few₂ h), long t u);
-        inside = λ h. omega (arith, p .behind, push-next t₂ t₃ n r p h);
-        holds = λ h. held (t₃ .nodes) r a b t u (omega (arith, p .behind, g .inside (few₁′ h), few₁ h)) (omega (arith, p .behind, g′ .inside (few₂ h))) (push-here t₂ t₃ n r p h) (holds-kept t (t₁ .nodes) (t₃ .nodes) (t₁ .count) a (g .inside (few₁′ h)) (below h) (g .holds (few₁′ h))) (holds-kept u (t₂ .nodes) (t₃ .nodes) (t₂ .count) b (g′ .inside (few₂ h)) (push-below t₂ t₃ n r p h) (g′ .holds (few₂ h)));
-        kept = λ h i lt. below h i (omega (arith, g .counted, few₁′ h)) ∙ g .kept (few₁′ h) i lt;
-      }
+    pub grown-two : (t₀ t₁ t₂ t₃ : Table) (a b r : ℕ) (t u : Tree) → Grown t₀ t₁ t a → Grown t₁ t₂ u b → Pushed t₂ t₃ (mk a b) r → Grown t₀ t₃ (tree t u) r
+    grown-two t₀ t₁ t₂ t₃ a b r t u g g′ p =
+        let n = mk a b in
+        let few₂ : t₃ .count ≤ 512 → t₂ .count ≤ 512 = λ h. omega (arith, push-room t₂ t₃ n r p h) in
+        let few₁ : t₃ .count ≤ 512 → t₁ .count ≤ t₂ .count = λ h. omega (arith, few₂ h, g′ .counted) in
+        let few₁′ : t₃ .count ≤ 512 → t₁ .count ≤ 512 = λ h. omega (arith, few₂ h, few₁ h) in
+        let below : (h : t₃ .count ≤ 512) (i : ℕ) → i < t₁ .count → at (t₃ .nodes) i ≡ at (t₁ .nodes) i = λ h i lt. push-below t₂ t₃ n r p h i (omega (arith, few₁ h)) ∙ g′ .kept (few₂ h) i lt in
+        record {
+          counted = omega (arith, g .counted, g′ .counted, p .counted, all t u);
+          wider = λ h. omega (arith, push-wider t₂ t₃ n r p h, narrow a b, g .wider (few₁′ h), g′ .wider (few₂ h), long t u);
+          inside = λ h. omega (arith, p .behind, push-next t₂ t₃ n r p h);
+          holds = λ h. held (t₃ .nodes) r a b t u (omega (arith, p .behind, g .inside (few₁′ h), few₁ h)) (omega (arith, p .behind, g′ .inside (few₂ h))) (push-here t₂ t₃ n r p h) (holds-kept t (t₁ .nodes) (t₃ .nodes) (t₁ .count) a (g .inside (few₁′ h)) (below h) (g .holds (few₁′ h))) (holds-kept u (t₂ .nodes) (t₃ .nodes) (t₂ .count) b (g′ .inside (few₂ h)) (push-below t₂ t₃ n r p h) (g′ .holds (few₂ h)));
+          kept = λ h i lt. below h i (omega (arith, g .counted, few₁′ h)) ∙ g .kept (few₁′ h) i lt;
+        }
 
 long-two : (t u : Tree) → 1 + length (mathlib.Core.List._++_ (encode t) (encode u)) ≡ 1 + (length (encode t) + length (encode u))
 long-two t u = ap (λ n. 1 + n) (length-append (encode t) (encode u))

@@ -4,11 +4,11 @@ ghost use lib.ListN.{length};
 ghost use Prim.Native.Nat.{_*_, _≤_};
 
 /// How many nodes a rule may have.
-pub(crate) const MOST_NODES: usize = 512;
+pub const MOST_NODES: usize = 512;
 
 /// A node, its children by their places in the table.
 #[derive(Clone, Copy)]
-pub(crate) enum Node {
+pub enum Node {
     Number(i32),
     Truth(bool),
     Variable(usize),
@@ -23,11 +23,11 @@ pub(crate) enum Node {
 /// Nodes in the order in which they were completed, children before their parents. A text may have
 /// more nodes than a rule: past the table they are only noticed, as one too many.
 #[derive(Drop)]
-pub(crate) struct Table {
-    pub(crate) nodes: [Node; MOST_NODES],
-    pub(crate) count: usize,
+pub struct Table {
+    pub nodes: [Node; MOST_NODES],
+    pub count: usize,
     /// How many bytes the nodes take in a record.
-    pub(crate) bytes: usize,
+    pub bytes: usize,
     ghost whole: { length nodes ≡ 512 },
     ghost few: { count ≤ 513 },
     ghost small: { bytes ≤ 5 * count },

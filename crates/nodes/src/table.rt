@@ -1,25 +1,25 @@
 //! Filling the table of nodes.
 ghost use mathlib.Core.Path.{_≡_};
-ghost use Rattle.text.specs.declared.node.Node.the-variants.{Variable, Application, Sum};
-ghost use Rattle.text.specs.Nodes.{width, Pushed};
+ghost use Rattle.nodes.specs.declared.node.Node.the-variants.{Variable, Application, Sum};
+ghost use Rattle.nodes.specs.Nodes.{width, Pushed};
 use crate::node::MOST_NODES;
 use crate::node::Node;
 use crate::node::Table;
 
 impl Node {
-    pub(crate) fn variable(distance: usize) -> Node
+    pub fn variable(distance: usize) -> Node
         ensures { λ r. ⌜ r ≡ Variable distance ⌝ }
     {
         Node::Variable(distance)
     }
 
-    pub(crate) fn applied(function: usize, argument: usize) -> Node
+    pub fn applied(function: usize, argument: usize) -> Node
         ensures { λ r. ⌜ r ≡ Application function argument ⌝ }
     {
         Node::Application(function, argument)
     }
 
-    pub(crate) fn summed(left: usize, right: usize) -> Node
+    pub fn summed(left: usize, right: usize) -> Node
         ensures { λ r. ⌜ r ≡ Sum left right ⌝ }
     {
         Node::Sum(left, right)
@@ -27,7 +27,7 @@ impl Node {
 
     /// How many bytes a node takes in a record, its children apart.
     fn width(self) -> usize
-        ensures { λ r. ⌜ r ≡ Rattle.text.specs.Nodes.width self ⌝ }
+        ensures { λ r. ⌜ r ≡ Rattle.nodes.specs.Nodes.width self ⌝ }
     {
         match self {
             Node::Number(_) => 5,
@@ -38,7 +38,7 @@ impl Node {
 }
 
 impl Table {
-    pub(crate) fn new() -> Table
+    pub fn new() -> Table
         ensures { λ r. ⌜ r .count ≡ 0 ⌝ ∗ ⌜ r .bytes ≡ 0 ⌝ }
     {
         Table {
@@ -49,7 +49,7 @@ impl Table {
     }
 
     /// Puts a node behind the others, and answers its place.
-    pub(crate) fn push(&mut self, node: Node) -> usize
+    pub fn push(&mut self, node: Node) -> usize
         ensures { λ r. ⌜ Pushed (now (self .entry)) (now (self .exit)) node r ⌝ }
     {
         let at = self.count;
