@@ -2,19 +2,17 @@
 use crate::failure::Failure;
 use crate::failure::FailureFromAllocError;
 use crate::failure::FailureFromRefused;
-use crate::reasons::MOST_RECORD;
 use crate::usage::SEE_HELP;
+use messages::origin::MOST_RECORD;
+use messages::origin::Origin;
 use std::alloc::Global;
 
 /// A text to compile.
 #[derive(Drop)]
 pub struct Request<'a> {
-    pub file: &'a str,
-    pub names: Vec<&'a str>,
+    pub origin: Origin<'a>,
     /// The file to write the record to, where it is not printed.
     pub out: Option<&'a str>,
-    /// How many bytes the record may have.
-    pub room: usize,
 }
 
 #[derive(Drop)]
@@ -103,12 +101,10 @@ fn compile<'a>(heap: Global, words: &'a [String]) -> Result<Command<'a>, Failure
             heap,
             "compile: the file with the rule's text is missing",
         ),
-        (Some(file), Awaited::Nothing) => Ok(Command::Compile(Request {
-            file,
-            names,
-            out,
-            room,
-        })),
+        (Some(file), Awaited::Nothing) => {
+            let origin = Origin { file, names, room };
+            Ok(Command::Compile(Request { origin, out }))
+        }
     }
 }
 

@@ -4,20 +4,11 @@
 //! here is to read the words, to fetch the text and to say clearly what is wrong with it.
 mod arguments;
 mod command;
-mod context;
-mod expected;
+mod compiling;
 mod explain;
 mod failure;
-mod names;
 mod nodes;
-mod place;
-mod quote;
-mod reason;
-mod reasons;
-mod refusal;
-mod snippet;
 mod source;
-mod tokens;
 mod usage;
 
 use failure::Failed;

@@ -1,13 +1,12 @@
 //! Fetching the text.
 use crate::failure::Failure;
 use crate::failure::FailureFromAllocError;
+use messages::origin::MOST_READ;
+use messages::origin::shown_name;
 use std::alloc::Global;
 use std::fs::File;
 use std::io;
 use std::io::Read;
-
-/// No more is read of a text: what is longer than this is refused anyway, and an input may never end.
-pub const MOST_READ: usize = 1_048_576;
 
 /// The bytes of a file, or of standard input where its name is `-`.
 pub fn read(rt: &LibcRuntime, file: &str) -> Result<Vec<u8>, Failure> {
@@ -36,13 +35,4 @@ fn bytes(rt: &LibcRuntime, heap: Global, file: &str) -> io::Result<Vec<u8>> {
             .read_to_end(&mut bytes)?;
     }
     Ok(bytes)
-}
-
-/// How messages call a file.
-pub fn shown_name(file: &str) -> &str {
-    if file == "-" {
-        "<standard input>"
-    } else {
-        file
-    }
 }

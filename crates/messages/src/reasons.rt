@@ -1,12 +1,13 @@
 //! Why a text is refused.
-use crate::arguments::Request;
 use crate::context::before;
 use crate::context::nodes_of_sentence;
 use crate::expected::advice;
 use crate::expected::wanted;
+use crate::origin::MOST_READ;
+use crate::origin::MOST_RECORD;
+use crate::origin::Origin;
 use crate::quote::quoted;
 use crate::reason::Reason;
-use crate::source::MOST_READ;
 use crate::tokens::byte_at;
 use crate::tokens::part;
 use std::alloc::AllocError;
@@ -16,25 +17,22 @@ use text::fault::CompileFault;
 use text::fault::LexFault;
 use text::name::Book;
 
-/// As many bytes as a record of 512 nodes can have.
-pub const MOST_RECORD: usize = 2_564;
-
 /// The reason for a refusal.
 pub fn reason_of(
     heap: Global,
     fault: &CompileFault,
     text: &[u8],
     book: &Book,
-    request: &Request,
+    origin: &Origin,
 ) -> Result<Reason, AllocError> {
     match fault {
         CompileFault::TooLong => too_long(heap, text.len()),
         CompileFault::Lex(LexFault::NoToken(place)) => no_token(heap, byte_at(text, *place)),
         CompileFault::Lex(LexFault::OutOfRange(_)) => out_of_range(heap),
         CompileFault::Unexpected(place) => unexpected(heap, text, *place),
-        CompileFault::Unknown(_) => unknown(heap, request.names.as_slice()),
+        CompileFault::Unknown(_) => unknown(heap, origin.names.as_slice()),
         CompileFault::TooManyNodes => too_many_nodes(heap, nodes_of_sentence(text)),
-        CompileFault::NoRoom => no_room(heap, text, book, request.room),
+        CompileFault::NoRoom => no_room(heap, text, book, origin.room),
     }
 }
 

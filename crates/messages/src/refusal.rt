@@ -1,10 +1,10 @@
 //! A refused text, shown as compilers show errors.
-use crate::arguments::Request;
+use crate::origin::Origin;
+use crate::origin::shown_name;
 use crate::place::end_of_words;
 use crate::place::position_of;
 use crate::reasons::reason_of;
 use crate::snippet::draw;
-use crate::source::shown_name;
 use crate::tokens::part;
 use crate::tokens::token_at;
 use std::alloc::AllocError;
@@ -18,11 +18,11 @@ pub fn show(
     fault: &CompileFault,
     text: &[u8],
     book: &Book,
-    request: &Request,
+    origin: &Origin,
 ) -> Result<String, AllocError> {
-    let file = shown_name(request.file);
+    let file = shown_name(origin.file);
     let number = fault.number();
-    let reason = reason_of(heap, fault, text, book, request)?;
+    let reason = reason_of(heap, fault, text, book, origin)?;
     let title = reason.title.as_str();
     let mut message = format!(heap, "error[{number}]: {title}\n")?;
     match fault {

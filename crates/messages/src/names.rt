@@ -1,13 +1,10 @@
-//! The readings' names, as they stand behind the file.
-use crate::failure::Failure;
-use crate::failure::FailureFromAllocError;
+//! Names that cannot name a reading.
 use crate::quote::quoted;
 use crate::reason::Reason;
 use crate::tokens::is_name;
 use std::alloc::AllocError;
 use std::alloc::Global;
 use text::fault::NameFault;
-use text::name::Book;
 
 /// How many bytes a name may have, and how many names there may be.
 const MOST_BYTES: usize = 32;
@@ -17,19 +14,8 @@ const MOST_NAMES: usize = 8;
 /// How a name is written.
 const SPELLING: &str = "write a letter, then letters, digits and underscores";
 
-/// Puts the names into a book, in their order.
-pub fn book(heap: Global, names: &[&str]) -> Result<Book, Failure> {
-    let mut book = Book::new();
-    for (at, name) in names.iter().enumerate() {
-        if let Err(fault) = book.add(name.as_bytes()) {
-            return Err(Failure::Told(refused(heap, fault, name, at)?));
-        }
-    }
-    Ok(book)
-}
-
-/// The message for the name that stands at this place, from 0.
-fn refused(heap: Global, fault: NameFault, name: &str, at: usize) -> Result<String, AllocError> {
+/// The message for a refused name, which stands at this place among the names, from 0.
+pub fn refused(heap: Global, fault: NameFault, name: &str, at: usize) -> Result<String, AllocError> {
     let number = fault.number();
     let order = at.saturating_add(1);
     let reason = reason_of(heap, name, at)?;
