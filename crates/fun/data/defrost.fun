@@ -1,0 +1,1 @@
+if 80 <= coil then 1 else 0

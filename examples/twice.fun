@@ -1,0 +1,1 @@
+(fun f -> fun x -> x + f x) (fun y -> y + y) 7
