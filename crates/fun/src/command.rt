@@ -1,8 +1,8 @@
 //! The commands, from the words of a call to what is printed.
 use crate::arguments::Command;
 use crate::arguments::read_call;
-use crate::explain::KNOWN;
 use crate::compiling;
+use crate::explain::KNOWN;
 use crate::explain::explanation;
 use crate::failure::Failure;
 use crate::failure::FailureFromAllocError;
