@@ -60,11 +60,11 @@ fn layout(rt: &LibcRuntime) -> io::Result<()> {
 fn limits(rt: &LibcRuntime) -> io::Result<()> {
     text_refused(rt, &[b' '; 4097], MOST_RECORD)?;
     text_refused(rt, &[b'1'; 4096], MOST_RECORD)?;
-    let mut sum = [b'1'; 1027];
-    for at in 0..513 {
-        sum[2 * at + 1] = b'+';
+    let mut sum = vec![in rt.alloc(); b'1']?;
+    for _ in 0..513 {
+        sum.extend_from_slice(b"+1")?;
     }
-    text_refused(rt, &sum, MOST_RECORD)?;
+    text_refused(rt, sum.as_slice(), MOST_RECORD)?;
     text_refused(rt, b"if 80 <= coil then 1 else 0", 23)
 }
 
