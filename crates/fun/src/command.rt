@@ -33,7 +33,10 @@ fn words(rt: &LibcRuntime, heap: Global) -> Result<Vec<String>, Failure> {
             Ok(words)
         }
         Err(error) => Err(Failure::Told(
-            format!(heap, "error: cannot read the words of the call: {error}\n  = help: names and files are given as UTF-8\n")?,
+            format!(
+                heap,
+                "error: cannot read the words of the call: {error}\n  = help: names and files are given as UTF-8\n"
+            )?,
         )),
     }
 }
