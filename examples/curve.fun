@@ -1,4 +1,4 @@
-let demand = fun limit -> fun level ->
+let heat = fun limit -> fun level ->
   if outside <= limit then level else 0
 in
-  (demand -5 40 + demand 0 20) + demand 10 15
+  (heat -5 40 + heat 0 20) + heat 10 15

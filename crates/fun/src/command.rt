@@ -1,8 +1,8 @@
 //! The commands, from the words of a call to what is printed.
 use crate::arguments::Command;
 use crate::arguments::read_call;
-use crate::explain::KNOWN;
 use crate::compiling;
+use crate::explain::KNOWN;
 use crate::explain::explanation;
 use crate::failure::Failure;
 use crate::failure::FailureFromAllocError;
@@ -33,7 +33,10 @@ fn words(rt: &LibcRuntime, heap: Global) -> Result<Vec<String>, Failure> {
             Ok(words)
         }
         Err(error) => Err(Failure::Told(
-            format!(heap, "error: cannot read the words of the call: {error}\n")?,
+            format!(
+                heap,
+                "error: cannot read the words of the call: {error}\n  = help: names and files are given as UTF-8\n"
+            )?,
         )),
     }
 }

@@ -37,7 +37,12 @@ fn book_of(heap: Global, names: &[&str]) -> Result<Book, Failure> {
 }
 
 /// Prints a record, or writes it to a file and says so.
-fn written(rt: &LibcRuntime, heap: Global, out: Option<&str>, record: &[u8]) -> Result<String, Failure> {
+fn written(
+    rt: &LibcRuntime,
+    heap: Global,
+    out: Option<&str>,
+    record: &[u8],
+) -> Result<String, Failure> {
     let bytes = record.len();
     let nodes = nodes::count(record);
     let Some(file) = out else {

@@ -17,7 +17,10 @@ fn main(rt: LibcRuntime) -> Result<(), Failed> {
     match command::run(&rt) {
         Ok(answer) => match rt.print(answer) {
             Ok(()) => Ok(()),
-            Err(_) => Err(Failed),
+            Err(error) => {
+                let _ = eprintln!(rt, "error: cannot print the answer: {error}");
+                Err(Failed)
+            }
         },
         Err(failure) => failure.tell(&rt),
     }

@@ -15,7 +15,12 @@ const MOST_NAMES: usize = 8;
 const SPELLING: &str = "write a letter, then letters, digits and underscores";
 
 /// The message for a refused name, which stands at this place among the names, from 0.
-pub fn refused(heap: Global, fault: NameFault, name: &str, at: usize) -> Result<String, AllocError> {
+pub fn refused(
+    heap: Global,
+    fault: NameFault,
+    name: &str,
+    at: usize,
+) -> Result<String, AllocError> {
     let number = fault.number();
     let order = at.saturating_add(1);
     let reason = reason_of(heap, name, at)?;

@@ -19,5 +19,9 @@ pub struct Origin<'a> {
 
 /// How messages call a file.
 pub fn shown_name(file: &str) -> &str {
-    if file == "-" { "<standard input>" } else { file }
+    if file == "-" {
+        "<standard input>"
+    } else {
+        file
+    }
 }

@@ -2,6 +2,7 @@
 use crate::context::before;
 use crate::context::nodes_of_sentence;
 use crate::expected::advice;
+use crate::expected::behind_operand;
 use crate::expected::wanted;
 use crate::origin::MOST_READ;
 use crate::origin::MOST_RECORD;
@@ -147,7 +148,7 @@ fn unknown(heap: Global, names: &[&str]) -> Result<Reason, AllocError> {
     Ok(Reason { title, why, help })
 }
 
-/// Says what could have stood in the token's place.
+/// Says what should have stood in the token's place, or why the token cannot.
 fn unexpected(heap: Global, text: &[u8], place: usize) -> Result<Reason, AllocError> {
     let context = before(text, place);
     let title = if place < text.len() {
@@ -156,11 +157,11 @@ fn unexpected(heap: Global, text: &[u8], place: usize) -> Result<Reason, AllocEr
         "the text ends too early"
     };
     let title = String::from_str(heap, title)?;
-    let why = match context.last {
-        None => String::from_str(heap, "a rule begins with an expression")?,
-        Some(last) => {
+    let why = match (context.last, wanted(text, context)) {
+        (None, _) => String::from_str(heap, "a rule begins with an expression")?,
+        (Some(_), None) => String::from_str(heap, behind_operand(text, place, context))?,
+        (Some(last), Some(wanted)) => {
             let stands = quoted(heap, part(text, last.place, last.stop))?;
-            let wanted = wanted(text, context);
             format!(heap, "behind {stands} the grammar wants {wanted}")?
         }
     };
