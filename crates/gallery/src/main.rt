@@ -6,7 +6,7 @@ use messages::origin::Origin;
 use messages::refusal::show;
 use std::io;
 use text::compile::compile;
-use text::name::Book;
+use book::name::Book;
 
 fn main(rt: LibcRuntime) -> io::Result<()> {
     bytes(&rt)?;
