@@ -5,9 +5,9 @@ use crate::fields::count;
 use crate::fields::split_field;
 use crate::trouble::Trouble;
 use crate::trouble::TroubleFromAllocError;
+use book::name::Book;
 use std::alloc::Global;
 use text::compile::compile;
-use book::name::Book;
 
 /// Compiles the text of one line.
 pub fn answer(heap: Global, fields: &str, out: &mut String) -> Result<(), Trouble> {

@@ -4,11 +4,11 @@ use crate::failure::Failure;
 use crate::failure::FailureFromAllocError;
 use crate::nodes;
 use crate::source;
+use book::name::Book;
 use messages::names::refused;
 use messages::refusal::show;
 use std::alloc::Global;
 use std::fs;
-use book::name::Book;
 
 /// Compiles a text, and prints its record or writes it to a file.
 pub fn compile(rt: &LibcRuntime, heap: Global, request: &Request) -> Result<String, Failure> {

@@ -1,12 +1,12 @@
 //! Every kind of refusal, shown: `stdout` beside this crate is what people get to read, and the
 //! check compares it with what is printed.
+use book::name::Book;
 use messages::names::refused;
 use messages::origin::MOST_RECORD;
 use messages::origin::Origin;
 use messages::refusal::show;
 use std::io;
 use text::compile::compile;
-use book::name::Book;
 
 fn main(rt: LibcRuntime) -> io::Result<()> {
     bytes(&rt)?;

@@ -2,9 +2,9 @@
 use crate::quote::quoted;
 use crate::reason::Reason;
 use crate::tokens::is_name;
+use book::fault::NameFault;
 use std::alloc::AllocError;
 use std::alloc::Global;
-use book::fault::NameFault;
 
 /// How many bytes a name may have, and how many names there may be.
 const MOST_BYTES: usize = 32;

@@ -11,12 +11,12 @@ use crate::quote::quoted;
 use crate::reason::Reason;
 use crate::tokens::byte_at;
 use crate::tokens::part;
+use book::name::Book;
+use lexer::fault::LexFault;
 use std::alloc::AllocError;
 use std::alloc::Global;
 use text::compile::compile;
 use text::fault::CompileFault;
-use lexer::fault::LexFault;
-use book::name::Book;
 
 /// The reason for a refusal.
 pub fn reason_of(

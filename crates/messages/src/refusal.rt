@@ -7,10 +7,10 @@ use crate::reasons::reason_of;
 use crate::snippet::draw;
 use crate::tokens::part;
 use crate::tokens::token_at;
+use book::name::Book;
 use std::alloc::AllocError;
 use std::alloc::Global;
 use text::fault::CompileFault;
-use book::name::Book;
 
 /// The message for a refused text. Refusals of the whole text have no token to point at.
 pub fn show(
