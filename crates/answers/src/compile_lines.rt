@@ -10,7 +10,7 @@ use std::alloc::Global;
 use text::compile::compile;
 
 /// Compiles the text of one line.
-pub fn answer(heap: Global, fields: &str, out: &mut String) -> Result<(), Trouble> {
+pub(crate) fn answer(heap: Global, fields: &str, out: &mut String) -> Result<(), Trouble> {
     let (names, rest) = split_field(fields);
     let (size, text) = split_field(rest);
     let size = count(size)?;

@@ -7,7 +7,7 @@ use std::alloc::AllocError;
 use std::alloc::Global;
 
 /// The answer to a line. Blank lines and comments are answered by themselves.
-pub fn answer(heap: Global, line: &str) -> Result<String, AllocError> {
+pub(crate) fn answer(heap: Global, line: &str) -> Result<String, AllocError> {
     if line.is_empty() || line.starts_with('#') {
         return String::from_str(heap, line);
     }

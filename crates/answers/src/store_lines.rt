@@ -28,7 +28,7 @@ use store::contract::Store;
 use store::fault::StoreFault;
 
 /// Answers the calls of one line on a store of its own.
-pub fn answer(heap: Global, fields: &str, out: &mut String) -> Result<(), Trouble> {
+pub(crate) fn answer(heap: Global, fields: &str, out: &mut String) -> Result<(), Trouble> {
     let (kind, rest) = split_field(fields);
     let (size, rest) = split_field(rest);
     let (layer, calls) = split_field(rest);

@@ -31,7 +31,7 @@ enum Awaited {
 }
 
 /// Reads the words of a call, the program's own name left out.
-pub fn read_call<'a>(heap: Global, words: &'a [String]) -> Result<Command<'a>, Failure> {
+pub(crate) fn read_call<'a>(heap: Global, words: &'a [String]) -> Result<Command<'a>, Failure> {
     let Some(first) = words.first() else {
         return Ok(Command::Help);
     };

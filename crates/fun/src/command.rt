@@ -12,7 +12,7 @@ use std::alloc::Global;
 use std::env;
 
 /// Does what the words of the call ask for; answers what to print.
-pub fn run(rt: &LibcRuntime) -> Result<String, Failure> {
+pub(crate) fn run(rt: &LibcRuntime) -> Result<String, Failure> {
     let heap = rt.alloc();
     let words = words(rt, heap)?;
     match read_call(heap, words.as_slice())? {

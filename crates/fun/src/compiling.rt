@@ -11,7 +11,11 @@ use std::alloc::Global;
 use std::fs;
 
 /// Compiles a text, and prints its record or writes it to a file.
-pub fn compile(rt: &LibcRuntime, heap: Global, request: &Request) -> Result<String, Failure> {
+pub(crate) fn compile(
+    rt: &LibcRuntime,
+    heap: Global,
+    request: &Request,
+) -> Result<String, Failure> {
     let origin = &request.origin;
     let book = book_of(heap, origin.names.as_slice())?;
     let text = source::read(rt, origin.file)?;

@@ -4,7 +4,7 @@
 pub const KNOWN: &str = "31 32 33 51 52 53 54 55 57 58 59";
 
 /// What a refusal means, with an example; nothing where there is no such refusal.
-pub fn explanation(number: &str) -> Option<&'static str> {
+pub(crate) fn explanation(number: &str) -> Option<&'static str> {
     match number {
         "31" => Some(NO_LIST),
         "32" => Some(NO_FREE_ROOM),

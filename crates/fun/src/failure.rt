@@ -28,7 +28,7 @@ pub impl<T: Drop> From<Refused<T>> for Failure as FailureFromRefused {
 
 impl Failure {
     /// Prints the message on standard error. Where even that fails there is nobody left to tell.
-    pub fn tell(&self, rt: &LibcRuntime) -> Result<(), Failed> {
+    pub(crate) fn tell(&self, rt: &LibcRuntime) -> Result<(), Failed> {
         let _ = match self {
             Failure::NoMemory => eprintln!(rt, "error: there is not enough memory"),
             Failure::Told(message) => eprint!(rt, "{message}"),

@@ -13,7 +13,7 @@ fn operand(kind: u8) -> usize {
 }
 
 /// Counts the kind bytes of a record.
-pub fn count(record: &[u8]) -> usize {
+pub(crate) fn count(record: &[u8]) -> usize {
     let mut passed = HEAD;
     let mut nodes: usize = 0;
     for byte in record {

@@ -9,7 +9,7 @@ use std::io;
 use std::io::Read;
 
 /// The bytes of a file, or of standard input where its name is `-`.
-pub fn read(rt: &LibcRuntime, file: &str) -> Result<Vec<u8>, Failure> {
+pub(crate) fn read(rt: &LibcRuntime, file: &str) -> Result<Vec<u8>, Failure> {
     let heap = rt.alloc();
     match bytes(rt, heap, file) {
         Ok(bytes) => Ok(bytes),

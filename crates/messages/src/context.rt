@@ -14,7 +14,7 @@ pub struct Context {
 }
 
 /// Reads the tokens of a text up to a place.
-pub fn before(text: &[u8], place: usize) -> Context {
+pub(crate) fn before(text: &[u8], place: usize) -> Context {
     let mut context = Context {
         last: None,
         before_last: None,
@@ -43,7 +43,7 @@ pub fn before(text: &[u8], place: usize) -> Context {
 
 /// How many nodes the tree of a sentence has: one for each constant, name in use and operator, one
 /// for each `fun`, `let` and `if`, and one for each operand that follows another.
-pub fn nodes_of_sentence(text: &[u8]) -> usize {
+pub(crate) fn nodes_of_sentence(text: &[u8]) -> usize {
     let mut nodes: usize = 0;
     let mut last = Sort::Opener;
     let mut stop = 0;

@@ -8,7 +8,7 @@ use crate::tokens::token_at;
 /// What has to stand behind the tokens so far; nothing where that is open, behind an operand. The
 /// last token says most of it; a name says more by what stands before it, since `fun` and `let` go
 /// on in their own way.
-pub fn wanted(text: &[u8], context: Context) -> Option<&'static str> {
+pub(crate) fn wanted(text: &[u8], context: Context) -> Option<&'static str> {
     let last = context.last?;
     match last.sort {
         Sort::Binder => Some("a name"),
@@ -32,7 +32,7 @@ fn opened_by(text: &[u8], context: Context) -> &[u8] {
 }
 
 /// Why the token at a place cannot follow an operand.
-pub fn behind_operand(text: &[u8], place: usize, context: Context) -> &'static str {
+pub(crate) fn behind_operand(text: &[u8], place: usize, context: Context) -> &'static str {
     let token = token_at(text, place);
     match part(text, token.place, token.stop) {
         b"fun" | b"let" | b"if" => "an argument is a number, a truth, a name or in parentheses",
@@ -48,7 +48,7 @@ pub fn behind_operand(text: &[u8], place: usize, context: Context) -> &'static s
 }
 
 /// What to write instead of the token at a place.
-pub fn advice(text: &[u8], place: usize, context: Context) -> &'static str {
+pub(crate) fn advice(text: &[u8], place: usize, context: Context) -> &'static str {
     if place >= text.len() {
         return at_end(context);
     }

@@ -12,7 +12,7 @@ pub struct Position {
 }
 
 /// Finds the line of a place.
-pub fn position_of(text: &[u8], place: usize) -> Position {
+pub(crate) fn position_of(text: &[u8], place: usize) -> Position {
     let mut line: usize = 1;
     let mut from: usize = 0;
     let mut to = text.len();
@@ -46,7 +46,7 @@ fn without_return(text: &[u8], from: usize, to: usize) -> usize {
 }
 
 /// The place behind the last byte that is not blank, where a text that ends too early should go on.
-pub fn end_of_words(text: &[u8]) -> usize {
+pub(crate) fn end_of_words(text: &[u8]) -> usize {
     let mut end: usize = 0;
     for (at, byte) in text.iter().enumerate() {
         if !is_blank(*byte) {

@@ -6,7 +6,7 @@ use std::alloc::Global;
 const MOST_QUOTED: usize = 40;
 
 /// Bytes within backquotes, the end cut off where there are many.
-pub fn quoted(heap: Global, bytes: &[u8]) -> Result<String, AllocError> {
+pub(crate) fn quoted(heap: Global, bytes: &[u8]) -> Result<String, AllocError> {
     let mut shown = String::from_str(heap, "`")?;
     for byte in bytes.iter().take(MOST_QUOTED) {
         shown.push_str(cell_of_byte(heap, *byte)?.as_str())?;
@@ -20,7 +20,7 @@ pub fn quoted(heap: Global, bytes: &[u8]) -> Result<String, AllocError> {
 
 /// A character as it is shown: a tab as four blanks, and what would move the cursor or hide text
 /// by its number.
-pub fn cell_of_char(heap: Global, character: char) -> Result<String, AllocError> {
+pub(crate) fn cell_of_char(heap: Global, character: char) -> Result<String, AllocError> {
     match character {
         '\t' => String::from_str(heap, "    "),
         '\u{0}'..='\u{1f}' | '\u{7f}'..='\u{9f}' => escaped(heap, character),
@@ -36,7 +36,7 @@ fn escaped(heap: Global, character: char) -> Result<String, AllocError> {
 }
 
 /// A byte of a line that is not UTF-8.
-pub fn cell_of_byte(heap: Global, byte: u8) -> Result<String, AllocError> {
+pub(crate) fn cell_of_byte(heap: Global, byte: u8) -> Result<String, AllocError> {
     if byte < 128 {
         cell_of_char(heap, byte as char)
     } else {

@@ -11,7 +11,12 @@ pub struct Reason {
 
 impl Reason {
     /// A reason whose three parts are known beforehand.
-    pub fn plain(heap: Global, title: &str, why: &str, help: &str) -> Result<Reason, AllocError> {
+    pub(crate) fn plain(
+        heap: Global,
+        title: &str,
+        why: &str,
+        help: &str,
+    ) -> Result<Reason, AllocError> {
         let title = String::from_str(heap, title)?;
         let why = String::from_str(heap, why)?;
         let help = String::from_str(heap, help)?;
@@ -19,7 +24,7 @@ impl Reason {
     }
 
     /// The last lines of a message, behind a margin.
-    pub fn notes(&self, heap: Global, margin: &str) -> Result<String, AllocError> {
+    pub(crate) fn notes(&self, heap: Global, margin: &str) -> Result<String, AllocError> {
         let why = self.why.as_str();
         let help = self.help.as_str();
         format!(heap, "{margin} = why: {why}\n{margin} = help: {help}\n")

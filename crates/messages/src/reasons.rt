@@ -19,7 +19,7 @@ use text::compile::compile;
 use text::fault::CompileFault;
 
 /// The reason for a refusal.
-pub fn reason_of(
+pub(crate) fn reason_of(
     heap: Global,
     fault: &CompileFault,
     text: &[u8],

@@ -42,7 +42,12 @@ fn extent_of(length: usize, place: usize, stop: usize) -> Extent {
 }
 
 /// Draws a line with carets under the bytes from `place` to `stop`, or one behind it where it ends.
-pub fn draw(heap: Global, line: &[u8], place: usize, stop: usize) -> Result<Snippet, AllocError> {
+pub(crate) fn draw(
+    heap: Global,
+    line: &[u8],
+    place: usize,
+    stop: usize,
+) -> Result<Snippet, AllocError> {
     let extent = extent_of(line.len(), place, stop);
     let mut snippet = Snippet {
         shown: String::new(heap),
