@@ -2,6 +2,8 @@
 //!
 //! In come lines on standard input, each a kind and its fields; out goes one line for each.
 //! The work is done by the libraries; here it is only read and written down.
+#![tactic(auto)]
+
 mod accept_lines;
 mod compile_lines;
 mod fields;

@@ -5,6 +5,8 @@
 //!
 //! Proved: which names are taken, what the book holds after each call, and which reading a name
 //! stands for.
+#![tactic(auto)]
+
 pub mod book;
 pub mod fault;
 pub mod name;

@@ -3,6 +3,8 @@
 //! In comes the tree of a rule with its readings, out comes the sequence of its stages. A typed rule is never
 //! stuck, keeps its types, and has a length, whatever is read. Hardly anything runs here: each function below
 //! stands for one law of `specs/Laws.antt`, which the check asks for because the function promises it.
+#![tactic(auto)]
+
 ghost use Rattle.std.specs.Prelude.{[], pos};
 ghost use Rattle.syntax.specs.Tree.{sum};
 ghost use Rattle.calculus.specs.Laws.{NeverStuck, TypedIsClosed, KeepsTypes, HasLength, ValueBelongs, Determined, TypedByConditions, SpellingTells, HasGeneralType};

@@ -5,5 +5,7 @@
 //!
 //! Proved: the flat store meets the contract of all stores, its whole room is the count of its
 //! slots, at most 65,535, and clearing it leaves no element in any slot.
+#![tactic(auto)]
+
 pub mod flat_store;
 pub mod slot;

@@ -3,6 +3,8 @@
 //! Words go in, a record, a type or an explanation comes out. The libraries judge the text and the
 //! record; what is done here is to read the words, to fetch the file and to say clearly what is
 //! wrong with it.
+#![tactic(auto)]
+
 mod accept_explained;
 mod arguments;
 mod checking;

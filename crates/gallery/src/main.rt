@@ -1,5 +1,7 @@
 //! Every kind of refusal, shown: `stdout` beside this crate is what people get to read, and the
 //! check compares it with what is printed.
+#![tactic(auto)]
+
 use book::name::Book;
 use messages::names::refused;
 use messages::origin::{MOST_RECORD, Origin};

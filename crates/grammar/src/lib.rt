@@ -6,6 +6,7 @@
 //!
 //! Proved here: a token list has at most one tree, and judging the tokens one at a time decides
 //! whether they begin a sentence.
+#![tactic(auto)]
 
 ghost use Rattle.grammar.specs.Laws.{OneTree, OneVerdict};
 

@@ -1,6 +1,8 @@
 //! Bytes as people compare them: two digits for each byte, the higher half first.
 //!
 //! Bytes go in and text comes out, or the other way round. Written in lower case, read in either.
+#![tactic(auto)]
+
 use std::alloc::{AllocError, Global};
 
 /// The digit of a number below 16.

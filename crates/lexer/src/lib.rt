@@ -5,6 +5,8 @@
 //!
 //! Proved: the token is the longest that begins there, and a number's value is what its digits come
 //! to; where there is none, the number and the place of the refusal are exact.
+#![tactic(auto)]
+
 pub mod ask;
 pub mod fault;
 pub mod number;

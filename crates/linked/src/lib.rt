@@ -5,5 +5,7 @@
 //!
 //! Proved: the linked store meets the contract of all stores, its whole room is the count of
 //! its cells, at most 65,535, and clearing it writes the blank into every cell.
+#![tactic(auto)]
+
 pub mod cell;
 pub mod linked;

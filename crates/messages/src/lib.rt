@@ -5,6 +5,8 @@
 //! token, and two notes. Nothing is judged here; the library `text` has done that. What records and
 //! types are refused for is told by `verdicts`, in the frame that stands here. Every function is
 //! proved safe and ending, whatever bytes the text has.
+#![tactic(auto)]
+
 mod context;
 mod expected;
 pub mod frame;

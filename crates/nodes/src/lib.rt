@@ -5,5 +5,7 @@
 //!
 //! Proved: what the table holds after each node, and, in `proofs/Growing`, that it holds a tree
 //! where its parts were put in one after another.
+#![tactic(auto)]
+
 pub mod node;
 pub mod table;

@@ -6,6 +6,8 @@
 //!
 //! Proved: whatever the store below, the layer meets the contract of all stores; its base list
 //! is the readings, its room is the room below, and each list costs what it costs below.
+#![tactic(auto)]
+
 pub mod layer;
 pub mod readings_list;
 pub mod value;

@@ -4,6 +4,8 @@
 //! count, free room and the environments made. As long as room suffices, a run is at the stage of its count, which
 //! is the lesser of the granted steps and the length, and tells what that stage tells. Hardly anything runs here:
 //! each function below stands for one law of `specs/Laws.antt`, or for a worked figure.
+#![tactic(auto)]
+
 ghost use Rattle.reckoning.specs.Laws.{FollowsStages, WithinWhole, Stays, MovesInside};
 ghost use Rattle.reckoning.specs.Starred.{Starred};
 ghost use Rattle.reckoning.specs.Figures.{RoomFigures, Needs, linked, flat};

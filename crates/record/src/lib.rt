@@ -5,6 +5,8 @@
 //!
 //! Proved: for every byte string the answer is the tree whose record these bytes are, with all variables bound and at
 //! most 512 nodes, or the number and the place of the first no.
+#![tactic(auto)]
+
 mod bytes;
 pub mod fault;
 mod head;

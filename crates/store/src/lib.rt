@@ -6,6 +6,8 @@
 //! crate of its own, and none knows another.
 //!
 //! Proved of every store: each call answers and leaves exactly what `specs/Lists.antt` says.
+#![tactic(auto)]
+
 pub mod blank;
 pub mod contract;
 pub mod fault;

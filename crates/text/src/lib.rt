@@ -6,6 +6,8 @@
 //!
 //! Proved of [`compile::compile`]: its answer is the verdict on the text, of which there is one
 //! only, and the buffer holds the record of the text's one tree and behind it what it held before.
+#![tactic(auto)]
+
 pub mod compile;
 pub mod fault;
 mod parser;

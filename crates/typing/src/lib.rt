@@ -6,6 +6,8 @@
 //!
 //! Proved: for all input the answer is the one outcome that the bytes have, and the type answer is that of the most
 //! general type.
+#![tactic(auto)]
+
 pub mod accept;
 mod answer;
 mod clear;

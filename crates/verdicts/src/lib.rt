@@ -3,6 +3,8 @@
 //! A record goes in, and with it the text that it was made from or the file that it came in; a type or a
 //! message comes out. Nothing is judged here; the library `typing` does that. Every function is proved safe
 //! and ending, whatever bytes the record and the text have.
+#![tactic(auto)]
+
 mod clash;
 mod node;
 pub mod of_record;
