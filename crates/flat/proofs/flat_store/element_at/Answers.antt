@@ -12,5 +12,5 @@ pub returns : goal.returns
 returns g c =
     let slots = c.args.slots.now in
     let blank = g.T.Blank.unwritten in
-    rw (c.read.ensures ∙ ap (λ i. element_of blank (get_or slots i Spare)) c.element-slot.ensures)
+    rw (c.read.ensures ∙ ap (λ i. element_of blank (get_or slots i Spare)) c.element_slot.ensures)
     (found blank slots c.args.used c.args.handle c.args.length c.args.index c.requires.known c.requires.within)

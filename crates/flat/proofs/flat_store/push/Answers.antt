@@ -4,5 +4,5 @@ use Rattle.flat.proofs.flat_store.push.Goals as goal
 
 pub returns : goal.returns
 returns g c =
-    extends g.T.Blank.unwritten c.args.slots.now c.place.new.slots c.args.used c.args.handle c.args.length c.first-slot.result c.args.element
-    c.requires.known c.place.auto.slots (omega arith) c.first-slot.ensures c.place.ensures
+    extends g.T.Blank.unwritten c.args.slots.now c.place.new.slots c.args.used c.args.handle c.args.length c.first_slot.result c.args.element
+    c.requires.known c.place.auto.slots (omega arith) c.first_slot.ensures c.place.ensures

@@ -11,7 +11,7 @@ loop-digit-preserved c =
     let rest : List ℕ = drop (i + 1) xs in
     let sum : ℕ = c.loop-digit.sum in
     let more : ℕ = 10 * sum + (get_or xs i 0 - 48) in
-    let new : c.min-sum.result ≡ min more 2147483649 = omega (arith, c.min-sum.ensures, c.saturating-sub.ensures, c.from.ensures) in
+    let new : c.min-sum.result ≡ min more 2147483649 = omega (arith, c.min-sum.ensures, c.saturating_sub.ensures, c.from.ensures) in
     let step = at_drop_more (λ (l : List ℕ). min (decimal sum l) 2147483649) xs i 0 c.loop-digit-test.true in
     (omega (arith, new), ap (λ n. min (decimal n rest) 2147483649) new ∙ decimal_min rest more 2147483649 ∙ sym step ∙ c.loop-digit.invariant.1)
 

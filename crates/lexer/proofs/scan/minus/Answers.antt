@@ -20,7 +20,7 @@ returns-then-has c =
 pub returns : goal.returns
 returns c = (
   refl,
-  no_minus c.args.text.now c.args.place c.requires.1 c.if-followed-by.ensures (λ lt. elim c.else-place-text.branch [
+  no_minus c.args.text.now c.args.place c.requires.1 c.if-followed_by.ensures (λ lt. elim c.else-place-text.branch [
     | else-place-text-via-then-place-text+else-has w ↦ sym w.if-has.ensures
     | else-place-text-via-else-place-text w ↦ absurd (omega (arith, w.if-place-text.false))
   ]),

@@ -95,10 +95,10 @@ tree-returns t c =
 
 pub two-tree-requires-2 : goal.two-tree-requires-2
 two-tree-requires-2 t c =
-    let g = c.in-ok-between.ensures.1 in
+    let g = c.in_ok-between.ensures.1 in
     let i = stands_inside _ _ _ g.bytes in
-    let o = some_node c.in-ok-between.ensures.0 in
-    let z = some_byte c.in-ok-between.ensures.0 in
+    let o = some_node c.in_ok-between.ensures.0 in
+    let z = some_byte c.in_ok-between.ensures.0 in
     (omega (arith, g.ends), (omega (arith, g.ends), (omega (arith, g.counted), g.few)))
 
 pub two-returns-in-err-end : goal.two-returns-in-err-end
@@ -109,6 +109,6 @@ two-returns-in-err-end t c =
 
 pub two-returns : goal.two-returns
 two-returns t c =
-    let g = c.in-ok-between.ensures in
-    let h = c.in-ok-end.ensures in
+    let g = c.in_ok-between.ensures in
+    let h = c.in_ok-end.ensures in
     (g.0, h.0, grown_twice _ _ _ _ _ _ _ _ _ _ _ g.1 h.1)

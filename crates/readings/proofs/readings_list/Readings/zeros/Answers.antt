@@ -5,4 +5,4 @@ use Rattle.readings.proofs.readings_list.Readings.zeros.Goals as goal
 pub returns : goal.returns
 returns c =
     let few : c.min.result ≤ 8 = omega arith in
-    ap (take c.min.result) c.zero-numbers.ensures ∙ take-replicate c.min.result 8 (pos 0) few ∙ ap (λ n. replicate n (pos 0)) (omega arith)
+    ap (take c.min.result) c.zero_numbers.ensures ∙ take-replicate c.min.result 8 (pos 0) few ∙ ap (λ n. replicate n (pos 0)) (omega arith)
