@@ -10,65 +10,65 @@ use Rattle.record.proofs.Growing.{fault_below, fault_behind, fault_behind_two, g
 use Rattle.record.proofs.Holding.{some_node, some_byte}
 use Rattle.record.proofs.Standing.{stands_inside}
 use Rattle.record.proofs.tree.+tree_two.Goals as goal
-use Rattle.record.proofs.tree.+tree_two.Goals.{tree-in-Number, tree-in-Truth, tree-in-Variable, tree-in-Function+in-ok-tree, tree-in-Application+in-ok-second, tree-in-LetIn+in-ok-second-2, tree-in-Sum+in-ok-second-3, tree-in-AtMost+in-ok-second-4, tree-in-IfElse+in-ok-second-5+in-ok-tree-2}
+use Rattle.record.proofs.tree.+tree_two.Goals.{tree-in-Number, tree-in-Truth, tree-in-Variable, tree-in-Function+in_ok-tree-in-Function, tree-in-Application+in_ok-second-in-Application, tree-in-LetIn+in_ok-second-in-LetIn, tree-in-Sum+in_ok-second-in-Sum, tree-in-AtMost+in_ok-second-in-AtMost, tree-in-IfElse+in_ok-second-in-IfElse+in_ok-tree-in-IfElse}
 
-pub tree-returns-in-err-head : goal.tree-returns-in-err-head
-tree-returns-in-err-head t c =
-    let p = err_from_is_err_and c.from-residual.result c.from-residual.ensures.1 in
-    rw (p.1, p.2) (λ more. here c.in-err-head.ensures)
+pub tree-returns-in_err-head : goal.tree-returns-in_err-head
+tree-returns-in_err-head t c =
+    let p = err_from_is_err_and c.from_residual.result c.from_residual.ensures.1 in
+    rw (p.1, p.2) (λ more. here c.in_err-head.ensures)
 
-pub tree-returns-in-err-tree : goal.tree-returns-in-err-tree
-tree-returns-in-err-tree t c =
-    let p = err_from_is_err_and c.from-residual-in-err-tree.result c.from-residual-in-err-tree.ensures.1 in
-    rw (p.1, p.2) (fault_below _ _ _ _ _ _ _ _ Function ((c.args.bound + 1) ∷ []) c.in-Function.is refl refl c.requires.shallow c.in-ok-head.ensures c.open-at.ensures.counted c.in-err-tree.ensures)
+pub tree-returns-in_err-tree-in-Function : goal.tree-returns-in_err-tree-in-Function
+tree-returns-in_err-tree-in-Function t c =
+    let p = err_from_is_err_and c.from_residual-in_err-tree-in-Function.result c.from_residual-in_err-tree-in-Function.ensures.1 in
+    rw (p.1, p.2) (fault_below _ _ _ _ _ _ _ _ Function ((c.args.bound + 1) ∷ []) c.in-Function.is refl refl c.requires.shallow c.in_ok-head.ensures c.open-at.ensures.counted c.in_err-tree-in-Function.ensures)
 
-pub tree-returns-in-err-second : goal.tree-returns-in-err-second
-tree-returns-in-err-second t c =
-    let p = err_from_is_err_and c.from-residual-in-err-second.result c.from-residual-in-err-second.ensures.1 in
-    rw (p.1, p.2) (fault_below _ _ _ _ _ _ _ _ Application (c.args.bound ∷ c.args.bound ∷ []) c.in-Application.is refl refl c.requires.shallow c.in-ok-head.ensures c.open-at.ensures.counted c.in-err-second.ensures)
+pub tree-returns-in_err-second-in-Application : goal.tree-returns-in_err-second-in-Application
+tree-returns-in_err-second-in-Application t c =
+    let p = err_from_is_err_and c.from_residual-in_err-second-in-Application.result c.from_residual-in_err-second-in-Application.ensures.1 in
+    rw (p.1, p.2) (fault_below _ _ _ _ _ _ _ _ Application (c.args.bound ∷ c.args.bound ∷ []) c.in-Application.is refl refl c.requires.shallow c.in_ok-head.ensures c.open-at.ensures.counted c.in_err-second-in-Application.ensures)
 
-pub tree-returns-in-err-second-2 : goal.tree-returns-in-err-second-2
-tree-returns-in-err-second-2 t c =
-    let p = err_from_is_err_and c.from-residual-in-err-second-2.result c.from-residual-in-err-second-2.ensures.1 in
-    rw (p.1, p.2) (fault_below _ _ _ _ _ _ _ _ LetIn (c.args.bound ∷ (c.args.bound + 1) ∷ []) c.in-LetIn.is refl refl c.requires.shallow c.in-ok-head.ensures c.open-at.ensures.counted c.in-err-second-2.ensures)
+pub tree-returns-in_err-second-in-LetIn : goal.tree-returns-in_err-second-in-LetIn
+tree-returns-in_err-second-in-LetIn t c =
+    let p = err_from_is_err_and c.from_residual-in_err-second-in-LetIn.result c.from_residual-in_err-second-in-LetIn.ensures.1 in
+    rw (p.1, p.2) (fault_below _ _ _ _ _ _ _ _ LetIn (c.args.bound ∷ (c.args.bound + 1) ∷ []) c.in-LetIn.is refl refl c.requires.shallow c.in_ok-head.ensures c.open-at.ensures.counted c.in_err-second-in-LetIn.ensures)
 
-pub tree-returns-in-err-second-3 : goal.tree-returns-in-err-second-3
-tree-returns-in-err-second-3 t c =
-    let p = err_from_is_err_and c.from-residual-in-err-second-3.result c.from-residual-in-err-second-3.ensures.1 in
-    rw (p.1, p.2) (fault_below _ _ _ _ _ _ _ _ Sum (c.args.bound ∷ c.args.bound ∷ []) c.in-Sum.is refl refl c.requires.shallow c.in-ok-head.ensures c.open-at.ensures.counted c.in-err-second-3.ensures)
+pub tree-returns-in_err-second-in-Sum : goal.tree-returns-in_err-second-in-Sum
+tree-returns-in_err-second-in-Sum t c =
+    let p = err_from_is_err_and c.from_residual-in_err-second-in-Sum.result c.from_residual-in_err-second-in-Sum.ensures.1 in
+    rw (p.1, p.2) (fault_below _ _ _ _ _ _ _ _ Sum (c.args.bound ∷ c.args.bound ∷ []) c.in-Sum.is refl refl c.requires.shallow c.in_ok-head.ensures c.open-at.ensures.counted c.in_err-second-in-Sum.ensures)
 
-pub tree-returns-in-err-second-4 : goal.tree-returns-in-err-second-4
-tree-returns-in-err-second-4 t c =
-    let p = err_from_is_err_and c.from-residual-in-err-second-4.result c.from-residual-in-err-second-4.ensures.1 in
-    rw (p.1, p.2) (fault_below _ _ _ _ _ _ _ _ AtMost (c.args.bound ∷ c.args.bound ∷ []) c.in-AtMost.is refl refl c.requires.shallow c.in-ok-head.ensures c.open-at.ensures.counted c.in-err-second-4.ensures)
+pub tree-returns-in_err-second-in-AtMost : goal.tree-returns-in_err-second-in-AtMost
+tree-returns-in_err-second-in-AtMost t c =
+    let p = err_from_is_err_and c.from_residual-in_err-second-in-AtMost.result c.from_residual-in_err-second-in-AtMost.ensures.1 in
+    rw (p.1, p.2) (fault_below _ _ _ _ _ _ _ _ AtMost (c.args.bound ∷ c.args.bound ∷ []) c.in-AtMost.is refl refl c.requires.shallow c.in_ok-head.ensures c.open-at.ensures.counted c.in_err-second-in-AtMost.ensures)
 
-pub tree-returns-in-err-second-5 : goal.tree-returns-in-err-second-5
-tree-returns-in-err-second-5 t c =
-    let p = err_from_is_err_and c.from-residual-in-err-second-5.result c.from-residual-in-err-second-5.ensures.1 in
-    rw (p.1, p.2) (fault_below _ _ _ _ _ _ _ _ IfElse (c.args.bound ∷ c.args.bound ∷ c.args.bound ∷ []) c.in-IfElse.is refl refl c.requires.shallow c.in-ok-head.ensures c.open-at.ensures.counted (λ more. c.in-err-second-5.ensures (c.args.bound ∷ more)))
+pub tree-returns-in_err-second-in-IfElse : goal.tree-returns-in_err-second-in-IfElse
+tree-returns-in_err-second-in-IfElse t c =
+    let p = err_from_is_err_and c.from_residual-in_err-second-in-IfElse.result c.from_residual-in_err-second-in-IfElse.ensures.1 in
+    rw (p.1, p.2) (fault_below _ _ _ _ _ _ _ _ IfElse (c.args.bound ∷ c.args.bound ∷ c.args.bound ∷ []) c.in-IfElse.is refl refl c.requires.shallow c.in_ok-head.ensures c.open-at.ensures.counted (λ more. c.in_err-second-in-IfElse.ensures (c.args.bound ∷ more)))
 
 pub tree-tree-requires-in-IfElse : goal.tree-tree-requires-in-IfElse
 tree-tree-requires-in-IfElse t c =
-    let g = c.in-ok-second-5.ensures in
+    let g = c.in_ok-second-in-IfElse.ensures in
     let ends = g.2.ends in
     let inside = stands_inside _ _ _ g.2.second_bytes in
     let opened = c.open-at.ensures.counted in
-    let among = c.in-ok-head.ensures.among in
+    let among = c.in_ok-head.ensures.among in
     let z = some_byte g.0 in
     (omega arith, (omega arith, (omega (arith, g.2.counted), g.2.few)))
 
-pub tree-returns-in-err-tree-2 : goal.tree-returns-in-err-tree-2
-tree-returns-in-err-tree-2 t c =
-    let p = err_from_is_err_and c.from-residual-in-err-tree-2.result c.from-residual-in-err-tree-2.ensures.1 in
-    let g = c.in-ok-second-5.ensures in
+pub tree-returns-in_err-tree-in-IfElse : goal.tree-returns-in_err-tree-in-IfElse
+tree-returns-in_err-tree-in-IfElse t c =
+    let p = err_from_is_err_and c.from_residual-in_err-tree-in-IfElse.result c.from_residual-in_err-tree-in-IfElse.ensures.1 in
+    let g = c.in_ok-second-in-IfElse.ensures in
     let opened = c.open-at.ensures.counted in
     let shallow = c.requires.shallow in
-    rw (p.1, p.2) (fault_below _ _ _ _ _ _ _ _ IfElse (c.args.bound ∷ c.args.bound ∷ c.args.bound ∷ []) c.in-IfElse.is refl refl c.requires.shallow c.in-ok-head.ensures c.open-at.ensures.counted
-    (λ more. fault_behind_two _ _ _ _ _ _ _ _ _ _ g.0 g.1 (c.args.bound ∷ more) (omega arith) (omega arith) g.2 (c.in-err-tree-2.ensures more)))
+    rw (p.1, p.2) (fault_below _ _ _ _ _ _ _ _ IfElse (c.args.bound ∷ c.args.bound ∷ c.args.bound ∷ []) c.in-IfElse.is refl refl c.requires.shallow c.in_ok-head.ensures c.open-at.ensures.counted
+    (λ more. fault_behind_two _ _ _ _ _ _ _ _ _ _ g.0 g.1 (c.args.bound ∷ more) (omega arith) (omega arith) g.2 (c.in_err-tree-in-IfElse.ensures more)))
 
 pub tree-returns : goal.tree-returns
 tree-returns t c =
-    let opens = c.in-ok-head.ensures in
+    let opens = c.in_ok-head.ensures in
     let among = opens.among in
     elim c.match-head.branch [
       | tree-in-Number w ↦ (let o = subst (λ h. Opens c.args.bytes.now c.args.bound c.args.nodes.now.count c.args.place h) w.in-Number.is opens in
@@ -79,18 +79,18 @@ tree-returns t c =
           let o = subst (λ h. Opens c.args.bytes.now c.args.bound c.args.nodes.now.count c.args.place h) w.in-Truth.is opens in truth_grown c.args.bytes.now c.args.bound c.args.place _ _ _ c.match-head.node w.in-Truth.truth made w.node-is o.bytes)
       | tree-in-Variable w ↦ (let made = put_made _ _ c.open-at.new.self _ c.put.new.self _ _ (Node.Variable w.in-Variable.distance) (c.args.place + 3) among c.open-at.ensures.at c.open-at.ensures.counted c.open-at.ensures.same w.nodes-is w.node-is c.put.ensures.counted c.put.ensures.stored in
           let o = subst (λ h. Opens c.args.bytes.now c.args.bound c.args.nodes.now.count c.args.place h) w.in-Variable.is opens in (variable w.in-Variable.distance, ends_made _ _ _ _ _ _ _ _ _ w.node-is (grown_leaf _ _ _ _ _ made c.args.bytes.now c.args.bound c.args.place (variable w.in-Variable.distance) refl refl o.bytes o.fine (λ e. e))))
-      | tree-in-Function+in-ok-tree w ↦ (let made = put_made _ _ w.tree.new.nodes _ c.put.new.self _ _ (Node.Function (c.open-at.result + 1)) w.in-ok-tree.field-0 among c.open-at.ensures.at c.open-at.ensures.counted c.open-at.ensures.same w.nodes-is w.node-is c.put.ensures.counted c.put.ensures.stored in
-          let o = subst (λ h. Opens c.args.bytes.now c.args.bound c.args.nodes.now.count c.args.place h) w.in-Function.is opens in let g = w.in-ok-tree.ensures in (function g.0, ends_made _ _ _ _ _ _ _ _ _ w.node-is (grown_body _ _ _ _ _ made c.args.bytes.now c.args.bound c.args.place _ g.0 (ap (λ n. Node.Function (n + 1)) c.open-at.ensures.at) o.bytes g.1)))
-      | tree-in-Application+in-ok-second w ↦ (let made = put_made _ _ w.two.new.nodes _ c.put.new.self _ _ (Node.Application (c.open-at.result + 1) w.in-ok-second.second) w.in-ok-second.end among c.open-at.ensures.at c.open-at.ensures.counted c.open-at.ensures.same w.nodes-is w.node-is c.put.ensures.counted c.put.ensures.stored in
-          let o = subst (λ h. Opens c.args.bytes.now c.args.bound c.args.nodes.now.count c.args.place h) w.in-Application.is opens in let g = w.in-ok-second.ensures in (application g.0 g.1, ends_made _ _ _ _ _ _ _ _ _ w.node-is (grown_pair _ _ _ _ _ made c.args.bytes.now c.args.bound _ c.args.place _ _ 6 g.0 g.1 (application g.0 g.1) o.bytes g.2 refl refl (λ x y. (x, y)) (λ m_is root x y. (root ∙ ap (λ n. Node.Application (n + 1) w.in-ok-second.second) c.open-at.ensures.at ∙ ap (λ n. Node.Application (c.args.nodes.now.count + 1) n) m_is, x, y)))))
-      | tree-in-LetIn+in-ok-second-2 w ↦ (let made = put_made _ _ w.two-in-LetIn.new.nodes _ c.put.new.self _ _ (Node.LetIn (c.open-at.result + 1) w.in-ok-second-2.second) w.in-ok-second-2.end among c.open-at.ensures.at c.open-at.ensures.counted c.open-at.ensures.same w.nodes-is w.node-is c.put.ensures.counted c.put.ensures.stored in
-          let o = subst (λ h. Opens c.args.bytes.now c.args.bound c.args.nodes.now.count c.args.place h) w.in-LetIn.is opens in let g = w.in-ok-second-2.ensures in (let_in g.0 g.1, ends_made _ _ _ _ _ _ _ _ _ w.node-is (grown_pair _ _ _ _ _ made c.args.bytes.now c.args.bound _ c.args.place _ _ 7 g.0 g.1 (let_in g.0 g.1) o.bytes g.2 refl refl (λ x y. (x, y)) (λ m_is root x y. (root ∙ ap (λ n. Node.LetIn (n + 1) w.in-ok-second-2.second) c.open-at.ensures.at ∙ ap (λ n. Node.LetIn (c.args.nodes.now.count + 1) n) m_is, x, y)))))
-      | tree-in-Sum+in-ok-second-3 w ↦ (let made = put_made _ _ w.two-in-Sum.new.nodes _ c.put.new.self _ _ (Node.Sum (c.open-at.result + 1) w.in-ok-second-3.second) w.in-ok-second-3.end among c.open-at.ensures.at c.open-at.ensures.counted c.open-at.ensures.same w.nodes-is w.node-is c.put.ensures.counted c.put.ensures.stored in
-          let o = subst (λ h. Opens c.args.bytes.now c.args.bound c.args.nodes.now.count c.args.place h) w.in-Sum.is opens in let g = w.in-ok-second-3.ensures in (sum g.0 g.1, ends_made _ _ _ _ _ _ _ _ _ w.node-is (grown_pair _ _ _ _ _ made c.args.bytes.now c.args.bound _ c.args.place _ _ 8 g.0 g.1 (sum g.0 g.1) o.bytes g.2 refl refl (λ x y. (x, y)) (λ m_is root x y. (root ∙ ap (λ n. Node.Sum (n + 1) w.in-ok-second-3.second) c.open-at.ensures.at ∙ ap (λ n. Node.Sum (c.args.nodes.now.count + 1) n) m_is, x, y)))))
-      | tree-in-AtMost+in-ok-second-4 w ↦ (let made = put_made _ _ w.two-in-AtMost.new.nodes _ c.put.new.self _ _ (Node.AtMost (c.open-at.result + 1) w.in-ok-second-4.second) w.in-ok-second-4.end among c.open-at.ensures.at c.open-at.ensures.counted c.open-at.ensures.same w.nodes-is w.node-is c.put.ensures.counted c.put.ensures.stored in
-          let o = subst (λ h. Opens c.args.bytes.now c.args.bound c.args.nodes.now.count c.args.place h) w.in-AtMost.is opens in let g = w.in-ok-second-4.ensures in (at_most g.0 g.1, ends_made _ _ _ _ _ _ _ _ _ w.node-is (grown_pair _ _ _ _ _ made c.args.bytes.now c.args.bound _ c.args.place _ _ 9 g.0 g.1 (at_most g.0 g.1) o.bytes g.2 refl refl (λ x y. (x, y)) (λ m_is root x y. (root ∙ ap (λ n. Node.AtMost (n + 1) w.in-ok-second-4.second) c.open-at.ensures.at ∙ ap (λ n. Node.AtMost (c.args.nodes.now.count + 1) n) m_is, x, y)))))
-      | tree-in-IfElse+in-ok-second-5+in-ok-tree-2 w ↦ (let made = put_made _ _ w.tree-in-IfElse.new.nodes _ c.put.new.self _ _ (Node.IfElse (c.open-at.result + 1) w.in-ok-second-5.second w.two-in-IfElse.new.nodes.count) w.in-ok-tree-2.field-0 among c.open-at.ensures.at c.open-at.ensures.counted c.open-at.ensures.same w.nodes-is w.node-is c.put.ensures.counted c.put.ensures.stored in
-          let o = subst (λ h. Opens c.args.bytes.now c.args.bound c.args.nodes.now.count c.args.place h) w.in-IfElse.is opens in let g = w.in-ok-second-5.ensures in let h = w.in-ok-tree-2.ensures in (if_else g.0 g.1 h.0, ends_made _ _ _ _ _ _ _ _ _ w.node-is (grown_three _ _ _ _ _ made c.args.bytes.now c.args.bound c.args.place _ _ _ c.open-at.result _ w.two-in-IfElse.new.nodes g.0 g.1 h.0 o.bytes g.2 h.1 c.open-at.ensures.at refl refl)))
+      | tree-in-Function+in_ok-tree-in-Function w ↦ (let made = put_made _ _ w.tree.new.nodes _ c.put.new.self _ _ (Node.Function (c.open-at.result + 1)) w.in_ok-tree-in-Function.field-0 among c.open-at.ensures.at c.open-at.ensures.counted c.open-at.ensures.same w.nodes-is w.node-is c.put.ensures.counted c.put.ensures.stored in
+          let o = subst (λ h. Opens c.args.bytes.now c.args.bound c.args.nodes.now.count c.args.place h) w.in-Function.is opens in let g = w.in_ok-tree-in-Function.ensures in (function g.0, ends_made _ _ _ _ _ _ _ _ _ w.node-is (grown_body _ _ _ _ _ made c.args.bytes.now c.args.bound c.args.place _ g.0 (ap (λ n. Node.Function (n + 1)) c.open-at.ensures.at) o.bytes g.1)))
+      | tree-in-Application+in_ok-second-in-Application w ↦ (let made = put_made _ _ w.two.new.nodes _ c.put.new.self _ _ (Node.Application (c.open-at.result + 1) w.in_ok-second-in-Application.second) w.in_ok-second-in-Application.end among c.open-at.ensures.at c.open-at.ensures.counted c.open-at.ensures.same w.nodes-is w.node-is c.put.ensures.counted c.put.ensures.stored in
+          let o = subst (λ h. Opens c.args.bytes.now c.args.bound c.args.nodes.now.count c.args.place h) w.in-Application.is opens in let g = w.in_ok-second-in-Application.ensures in (application g.0 g.1, ends_made _ _ _ _ _ _ _ _ _ w.node-is (grown_pair _ _ _ _ _ made c.args.bytes.now c.args.bound _ c.args.place _ _ 6 g.0 g.1 (application g.0 g.1) o.bytes g.2 refl refl (λ x y. (x, y)) (λ m_is root x y. (root ∙ ap (λ n. Node.Application (n + 1) w.in_ok-second-in-Application.second) c.open-at.ensures.at ∙ ap (λ n. Node.Application (c.args.nodes.now.count + 1) n) m_is, x, y)))))
+      | tree-in-LetIn+in_ok-second-in-LetIn w ↦ (let made = put_made _ _ w.two-in-LetIn.new.nodes _ c.put.new.self _ _ (Node.LetIn (c.open-at.result + 1) w.in_ok-second-in-LetIn.second) w.in_ok-second-in-LetIn.end among c.open-at.ensures.at c.open-at.ensures.counted c.open-at.ensures.same w.nodes-is w.node-is c.put.ensures.counted c.put.ensures.stored in
+          let o = subst (λ h. Opens c.args.bytes.now c.args.bound c.args.nodes.now.count c.args.place h) w.in-LetIn.is opens in let g = w.in_ok-second-in-LetIn.ensures in (let_in g.0 g.1, ends_made _ _ _ _ _ _ _ _ _ w.node-is (grown_pair _ _ _ _ _ made c.args.bytes.now c.args.bound _ c.args.place _ _ 7 g.0 g.1 (let_in g.0 g.1) o.bytes g.2 refl refl (λ x y. (x, y)) (λ m_is root x y. (root ∙ ap (λ n. Node.LetIn (n + 1) w.in_ok-second-in-LetIn.second) c.open-at.ensures.at ∙ ap (λ n. Node.LetIn (c.args.nodes.now.count + 1) n) m_is, x, y)))))
+      | tree-in-Sum+in_ok-second-in-Sum w ↦ (let made = put_made _ _ w.two-in-Sum.new.nodes _ c.put.new.self _ _ (Node.Sum (c.open-at.result + 1) w.in_ok-second-in-Sum.second) w.in_ok-second-in-Sum.end among c.open-at.ensures.at c.open-at.ensures.counted c.open-at.ensures.same w.nodes-is w.node-is c.put.ensures.counted c.put.ensures.stored in
+          let o = subst (λ h. Opens c.args.bytes.now c.args.bound c.args.nodes.now.count c.args.place h) w.in-Sum.is opens in let g = w.in_ok-second-in-Sum.ensures in (sum g.0 g.1, ends_made _ _ _ _ _ _ _ _ _ w.node-is (grown_pair _ _ _ _ _ made c.args.bytes.now c.args.bound _ c.args.place _ _ 8 g.0 g.1 (sum g.0 g.1) o.bytes g.2 refl refl (λ x y. (x, y)) (λ m_is root x y. (root ∙ ap (λ n. Node.Sum (n + 1) w.in_ok-second-in-Sum.second) c.open-at.ensures.at ∙ ap (λ n. Node.Sum (c.args.nodes.now.count + 1) n) m_is, x, y)))))
+      | tree-in-AtMost+in_ok-second-in-AtMost w ↦ (let made = put_made _ _ w.two-in-AtMost.new.nodes _ c.put.new.self _ _ (Node.AtMost (c.open-at.result + 1) w.in_ok-second-in-AtMost.second) w.in_ok-second-in-AtMost.end among c.open-at.ensures.at c.open-at.ensures.counted c.open-at.ensures.same w.nodes-is w.node-is c.put.ensures.counted c.put.ensures.stored in
+          let o = subst (λ h. Opens c.args.bytes.now c.args.bound c.args.nodes.now.count c.args.place h) w.in-AtMost.is opens in let g = w.in_ok-second-in-AtMost.ensures in (at_most g.0 g.1, ends_made _ _ _ _ _ _ _ _ _ w.node-is (grown_pair _ _ _ _ _ made c.args.bytes.now c.args.bound _ c.args.place _ _ 9 g.0 g.1 (at_most g.0 g.1) o.bytes g.2 refl refl (λ x y. (x, y)) (λ m_is root x y. (root ∙ ap (λ n. Node.AtMost (n + 1) w.in_ok-second-in-AtMost.second) c.open-at.ensures.at ∙ ap (λ n. Node.AtMost (c.args.nodes.now.count + 1) n) m_is, x, y)))))
+      | tree-in-IfElse+in_ok-second-in-IfElse+in_ok-tree-in-IfElse w ↦ (let made = put_made _ _ w.tree-in-IfElse.new.nodes _ c.put.new.self _ _ (Node.IfElse (c.open-at.result + 1) w.in_ok-second-in-IfElse.second w.two-in-IfElse.new.nodes.count) w.in_ok-tree-in-IfElse.field-0 among c.open-at.ensures.at c.open-at.ensures.counted c.open-at.ensures.same w.nodes-is w.node-is c.put.ensures.counted c.put.ensures.stored in
+          let o = subst (λ h. Opens c.args.bytes.now c.args.bound c.args.nodes.now.count c.args.place h) w.in-IfElse.is opens in let g = w.in_ok-second-in-IfElse.ensures in let h = w.in_ok-tree-in-IfElse.ensures in (if_else g.0 g.1 h.0, ends_made _ _ _ _ _ _ _ _ _ w.node-is (grown_three _ _ _ _ _ made c.args.bytes.now c.args.bound c.args.place _ _ _ c.open-at.result _ w.two-in-IfElse.new.nodes g.0 g.1 h.0 o.bytes g.2 h.1 c.open-at.ensures.at refl refl)))
     ]
 
 pub two-tree-requires-2 : goal.two-tree-requires-2
@@ -101,11 +101,11 @@ two-tree-requires-2 t c =
     let z = some_byte c.in_ok-between.ensures.0 in
     (omega (arith, g.ends), (omega (arith, g.ends), (omega (arith, g.counted), g.few)))
 
-pub two-returns-in-err-end : goal.two-returns-in-err-end
-two-returns-in-err-end t c =
-    let p = err_from_is_err_and c.from-residual-in-err-end.result c.from-residual-in-err-end.ensures.1 in
-    let g = c.in-ok-between.ensures in
-    rw (p.1, p.2) (λ more. fault_behind _ _ _ _ _ _ _ _ g.0 _ c.requires.shallow.0 g.1 (c.in-err-end.ensures more))
+pub two-returns-in_err-end : goal.two-returns-in_err-end
+two-returns-in_err-end t c =
+    let p = err_from_is_err_and c.from_residual-in_err-end.result c.from_residual-in_err-end.ensures.1 in
+    let g = c.in_ok-between.ensures in
+    rw (p.1, p.2) (λ more. fault_behind _ _ _ _ _ _ _ _ g.0 _ c.requires.shallow.0 g.1 (c.in_err-end.ensures more))
 
 pub two-returns : goal.two-returns
 two-returns t c =
