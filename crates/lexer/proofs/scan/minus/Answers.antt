@@ -6,9 +6,9 @@ use Rattle.lexer.proofs.Lexemes.{placed, longest_negative, no_minus}
 use Rattle.lexer.proofs.scan.minus.Goals as goal
 use Rattle.lexer.proofs.scan.minus.Goals.{else-place-text-via-then-place-text+else-has, else-place-text-via-else-place-text}
 
-pub returns-then-followed-by : goal.returns-then-followed-by
-returns-then-followed-by c =
-    let next = c.if-followed-by.ensures in
+pub returns-then-followed_by : goal.returns-then-followed_by
+returns-then-followed_by c =
+    let next = c.if-followed_by.ensures in
     let made = c.sign.ensures in
     (made.0, placed _ _ _ _ c.sign.result made.1 (longest_two c.args.text.now c.args.place 45 62 (mark Arrow) next.0 c.requires.1 next.1 refl (λ _ _. refl)))
 
