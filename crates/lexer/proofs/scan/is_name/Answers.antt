@@ -5,7 +5,7 @@ use Rattle.lexer.proofs.scan.is_name.Goals as goal
 
 pub returns-then-placed-bytes : goal.returns-then-placed-bytes
 returns-then-placed-bytes c =
-    c.is-name.ensures ∙ ap named (sym (token_whole c.args.bytes.now c.in-Ok.placed.stop _ c.in-Ok.ensures.1 c.if-placed-bytes.true))
+    c.is_name.ensures ∙ ap named (sym (token_whole c.args.bytes.now c.in-Ok.placed.stop _ c.in-Ok.ensures.1 c.if-placed-bytes.true))
 
 pub returns-else-placed-bytes : goal.returns-else-placed-bytes
 returns-else-placed-bytes c =

@@ -5,7 +5,7 @@ use Rattle.grammar.specs.Token.{mark}
 use Rattle.grammar.proofs.Lexing.{longest_one, longest_two}
 use Rattle.lexer.proofs.Lexemes.{placed, longest_number, no_less, no_token}
 use Rattle.lexer.proofs.scan.token_at.Goals as goal
-use Rattle.lexer.proofs.scan.token_at.Goals.{in-default-via-in-60+else-followed_by, in-default-via-in-default·+then-this-lt48, in-default-via-in-default·+else-this-lt48+else-this-lt58+then-this-lt65, in-default-via-in-default·+else-this-lt48+else-this-lt58+else-this-lt65+else-this-lt91+then-this-lt97, in-default-via-in-default·+else-this-lt48+else-this-lt58+else-this-lt65+else-this-lt91+else-this-lt97+else-this-lt123}
+use Rattle.lexer.proofs.scan.token_at.Goals.{in_default-via-in-60+else-followed_by, in_default-via-in_default+then-this-lt48, in_default-via-in_default+else-this-lt48+else-this-lt58+then-this-lt65, in_default-via-in_default+else-this-lt48+else-this-lt58+else-this-lt65+else-this-lt91+then-this-lt97, in_default-via-in_default+else-this-lt48+else-this-lt58+else-this-lt65+else-this-lt91+else-this-lt97+else-this-lt123}
 
 pub returns-in-40 : goal.returns-in-40
 returns-in-40 c =
@@ -38,14 +38,14 @@ returns-in-48-to-57 c =
     let made = c.number.ensures in
     (made.0, placed _ _ _ _ c.number.result (refl, made.1.1) (longest_number _ _ _ c.requires (grind (arith, nat_tests)) made.1.0))
 
-pub returns-in-default : goal.returns-in-default
-returns-in-default c = (
+pub returns-in_default : goal.returns-in_default
+returns-in_default c = (
   refl,
-  elim c.in-default.branch [
-    | in-default-via-in-60+else-followed_by w ↦ no_less c.args.text.now c.args.place w.in-60.is w.if-followed_by.ensures
-    | in-default-via-in-default·+then-this-lt48 w ↦ no_token c.args.text.now c.args.place (grind (arith, nat_tests)) (grind (arith, nat_tests)) (grind (arith, nat_tests)) (grind (arith, nat_tests)) (grind (arith, nat_tests)) (grind (arith, nat_tests)) (grind (arith, nat_tests)) (grind (arith, nat_tests))
-    | in-default-via-in-default·+else-this-lt48+else-this-lt58+then-this-lt65 w ↦ no_token c.args.text.now c.args.place (grind (arith, nat_tests)) (grind (arith, nat_tests)) (grind (arith, nat_tests)) (grind (arith, nat_tests)) (grind (arith, nat_tests)) (grind (arith, nat_tests)) (grind (arith, nat_tests)) (grind (arith, nat_tests))
-    | in-default-via-in-default·+else-this-lt48+else-this-lt58+else-this-lt65+else-this-lt91+then-this-lt97 w ↦ no_token c.args.text.now c.args.place (grind (arith, nat_tests)) (grind (arith, nat_tests)) (grind (arith, nat_tests)) (grind (arith, nat_tests)) (grind (arith, nat_tests)) (grind (arith, nat_tests)) (grind (arith, nat_tests)) (grind (arith, nat_tests))
-    | in-default-via-in-default·+else-this-lt48+else-this-lt58+else-this-lt65+else-this-lt91+else-this-lt97+else-this-lt123 w ↦ no_token c.args.text.now c.args.place (grind (arith, nat_tests)) (grind (arith, nat_tests)) (grind (arith, nat_tests)) (grind (arith, nat_tests)) (grind (arith, nat_tests)) (grind (arith, nat_tests)) (grind (arith, nat_tests)) (grind (arith, nat_tests))
+  elim c.in_default.branch [
+    | in_default-via-in-60+else-followed_by w ↦ no_less c.args.text.now c.args.place w.in-60.is w.if-followed_by.ensures
+    | in_default-via-in_default+then-this-lt48 w ↦ no_token c.args.text.now c.args.place (grind (arith, nat_tests)) (grind (arith, nat_tests)) (grind (arith, nat_tests)) (grind (arith, nat_tests)) (grind (arith, nat_tests)) (grind (arith, nat_tests)) (grind (arith, nat_tests)) (grind (arith, nat_tests))
+    | in_default-via-in_default+else-this-lt48+else-this-lt58+then-this-lt65 w ↦ no_token c.args.text.now c.args.place (grind (arith, nat_tests)) (grind (arith, nat_tests)) (grind (arith, nat_tests)) (grind (arith, nat_tests)) (grind (arith, nat_tests)) (grind (arith, nat_tests)) (grind (arith, nat_tests)) (grind (arith, nat_tests))
+    | in_default-via-in_default+else-this-lt48+else-this-lt58+else-this-lt65+else-this-lt91+then-this-lt97 w ↦ no_token c.args.text.now c.args.place (grind (arith, nat_tests)) (grind (arith, nat_tests)) (grind (arith, nat_tests)) (grind (arith, nat_tests)) (grind (arith, nat_tests)) (grind (arith, nat_tests)) (grind (arith, nat_tests)) (grind (arith, nat_tests))
+    | in_default-via-in_default+else-this-lt48+else-this-lt58+else-this-lt65+else-this-lt91+else-this-lt97+else-this-lt123 w ↦ no_token c.args.text.now c.args.place (grind (arith, nat_tests)) (grind (arith, nat_tests)) (grind (arith, nat_tests)) (grind (arith, nat_tests)) (grind (arith, nat_tests)) (grind (arith, nat_tests)) (grind (arith, nat_tests)) (grind (arith, nat_tests))
   ],
 )

@@ -21,9 +21,9 @@ returns-in-Some-find c =
     let s = c.args.text.now in
     let scope = c.args.scope.now in
     let xs = open_names s scope in
-    distance_back xs (names c.args.book.now) c.args.name.now c.in-default.ensures ∙ ap (later (length xs)) c.in-Some-find.ensures ∙ ap (λ n. mathlib.Core.Option.some (n + c.in-Some-find.reading)) (length_opened s scope.parts c.args.name.now scope.count)
+    distance_back xs (names c.args.book.now) c.args.name.now c.in_default.ensures ∙ ap (later (length xs)) c.in-Some-find.ensures ∙ ap (λ n. mathlib.Core.Option.some (n + c.in-Some-find.reading)) (length_opened s scope.parts c.args.name.now scope.count)
 
 pub returns-in-None : goal.returns-in-None
 returns-in-None c =
     let xs = open_names c.args.text.now c.args.scope.now in
-    distance_back xs (names c.args.book.now) c.args.name.now c.in-default.ensures ∙ ap (later (length xs)) c.in-None.ensures
+    distance_back xs (names c.args.book.now) c.args.name.now c.in_default.ensures ∙ ap (later (length xs)) c.in-None.ensures

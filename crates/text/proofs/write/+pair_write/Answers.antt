@@ -37,13 +37,13 @@ pub write-put-at-requires-in-IfElse : goal.write-put-at-requires-in-IfElse
 write-put-at-requires-in-IfElse t c =
     omega (arith, c.requires.3, encode_some c.requires.0)
 
-pub write-put-four-requires : goal.write-put-four-requires
-write-put-four-requires t c =
+pub write-put_four-requires : goal.write-put_four-requires
+write-put_four-requires t c =
     let e = shape c.args.nodes.now c.args.root c.requires.0 (Number c.in-Number.k) c.requires.2 c.in-Number.is in
     omega (arith, c.requires.3, ap (λ u. length (encode u)) e, c.put-at.ensures.0, c.put-at.auto.out)
 
-pub write-put-two-requires : goal.write-put-two-requires
-write-put-two-requires t c =
+pub write-put_two-requires : goal.write-put_two-requires
+write-put_two-requires t c =
     let e = shape c.args.nodes.now c.args.root c.requires.0 (Variable c.in-Variable.d) c.requires.2 c.in-Variable.is in
     omega (arith, c.requires.3, ap (λ u. length (encode u)) e, c.put-at-in-Variable.ensures.0, c.put-at-in-Variable.auto.out)
 
@@ -124,7 +124,7 @@ write-returns-in-Number t c =
     let z : to_z w32 (of_z w32 k) ≡ k = search rules in
     let e = shape c.args.nodes.now c.args.root u (Number k) h c.in-Number.is in
     let le : from ≤ length out = omega (arith, c.requires.3) in
-    let both = behind out c.put-at.new.out c.put-four.new.out from c.put-at.result c.put-four.result (1 ∷ []) (four_bytes k) le c.put-at.ensures (subst (λ x. (c.put-four.result ≡ c.put-at.result + 4) × (c.put-four.new.out ≡ written c.put-at.new.out c.put-at.result (four_bytes x))) z c.put-four.ensures) in
+    let both = behind out c.put-at.new.out c.put_four.new.out from c.put-at.result c.put_four.result (1 ∷ []) (four_bytes k) le c.put-at.ensures (subst (λ x. (c.put_four.result ≡ c.put-at.result + 4) × (c.put_four.new.out ≡ written c.put-at.new.out c.put-at.result (four_bytes x))) z c.put_four.ensures) in
     let whole = ap encode e in
     (both.0 ∙ ap (λ l. from + length l) (sym whole), both.1 ∙ ap (λ l. written out from l) (sym whole))
 
@@ -135,7 +135,7 @@ write-returns-in-Variable t c =
     let from = c.args.from in
     let e = shape c.args.nodes.now c.args.root u (Variable c.in-Variable.d) h c.in-Variable.is in
     let le : from ≤ length out = omega (arith, c.requires.3) in
-    let both = behind out c.put-at-in-Variable.new.out c.put-two.new.out from c.put-at-in-Variable.result c.put-two.result (4 ∷ []) (two_bytes c.in-Variable.d) le c.put-at-in-Variable.ensures c.put-two.ensures in
+    let both = behind out c.put-at-in-Variable.new.out c.put_two.new.out from c.put-at-in-Variable.result c.put_two.result (4 ∷ []) (two_bytes c.in-Variable.d) le c.put-at-in-Variable.ensures c.put_two.ensures in
     let whole = ap encode e in
     (both.0 ∙ ap (λ l. from + length l) (sym whole), both.1 ∙ ap (λ l. written out from l) (sym whole))
 

@@ -27,11 +27,11 @@ decreases-expr l = left l.text.now l.self.now 8
 abbrev pub decreases-function : goal.decreases-function
 decreases-function l = left l.text.now l.self.now 7
 
-abbrev pub decreases-if-else : goal.decreases-if-else
-decreases-if-else l = left l.text.now l.self.now 7
+abbrev pub decreases-if_else : goal.decreases-if_else
+decreases-if_else l = left l.text.now l.self.now 7
 
-abbrev pub decreases-let-in : goal.decreases-let-in
-decreases-let-in l = left l.text.now l.self.now 7
+abbrev pub decreases-let_in : goal.decreases-let_in
+decreases-let_in l = left l.text.now l.self.now 7
 
 abbrev pub decreases-sum : goal.decreases-sum
 decreases-sum l = left l.text.now l.self.now 5
