@@ -10,8 +10,8 @@ use Rattle.text.proofs.scope.distance.Goals as goal
 pub returns-in-Some : goal.returns-in-Some
 returns-in-Some c = distance_front (open_names c.args.text.now c.args.scope.now) (names c.args.book.now) c.args.name.now c.in-Some.d c.in-Some.ensures
 
-pub overflow-add-result : goal.overflow-add-result
-overflow-add-result c =
+pub overflow_add-result : goal.overflow_add-result
+overflow_add-result c =
     let book = c.args.book.now in
     let few : length (names book) ≡ book.count = names_length book.names book.count (omega arith) in
     omega (arith, c.requires.1, few, distance-< (names book) c.args.name.now c.in-Some-find.reading c.in-Some-find.ensures)

@@ -55,7 +55,7 @@ write-write-requires t c =
 pub write-pair-requires : goal.write-pair-requires
 write-pair-requires t c =
     let e = shape c.args.nodes.now c.args.root c.requires.0 (Application c.in-Application.f c.in-Application.a) c.requires.2 c.in-Application.is in
-    (omega (arith, c.decreases), (e.3, (e.4, (e.0, e.1, omega (arith, c.requires.1, e.3), omega (arith, c.requires.1, e.4), e.5, e.6, omega (arith, c.requires.3, ap (λ u. length (encode u)) e.2, length_two 6 e.0 e.1)))))
+    (omega (arith, c.decreases), ((e.3, e.4), (e.0, e.1, omega (arith, c.requires.1, e.3), omega (arith, c.requires.1, e.4), e.5, e.6, omega (arith, c.requires.3, ap (λ u. length (encode u)) e.2, length_two 6 e.0 e.1))))
 
 pub write-returns-in-Application : goal.write-returns-in-Application
 write-returns-in-Application t c =
@@ -68,7 +68,7 @@ write-returns-in-Application t c =
 pub write-pair-requires-in-LetIn : goal.write-pair-requires-in-LetIn
 write-pair-requires-in-LetIn t c =
     let e = shape c.args.nodes.now c.args.root c.requires.0 (LetIn c.in-LetIn.e c.in-LetIn.b) c.requires.2 c.in-LetIn.is in
-    (omega (arith, c.decreases), (e.3, (e.4, (e.0, e.1, omega (arith, c.requires.1, e.3), omega (arith, c.requires.1, e.4), e.5, e.6, omega (arith, c.requires.3, ap (λ u. length (encode u)) e.2, length_two 7 e.0 e.1)))))
+    (omega (arith, c.decreases), ((e.3, e.4), (e.0, e.1, omega (arith, c.requires.1, e.3), omega (arith, c.requires.1, e.4), e.5, e.6, omega (arith, c.requires.3, ap (λ u. length (encode u)) e.2, length_two 7 e.0 e.1))))
 
 pub write-returns-in-LetIn : goal.write-returns-in-LetIn
 write-returns-in-LetIn t c =
@@ -81,7 +81,7 @@ write-returns-in-LetIn t c =
 pub write-pair-requires-in-Sum : goal.write-pair-requires-in-Sum
 write-pair-requires-in-Sum t c =
     let e = shape c.args.nodes.now c.args.root c.requires.0 (Sum c.in-Sum.l c.in-Sum.r) c.requires.2 c.in-Sum.is in
-    (omega (arith, c.decreases), (e.3, (e.4, (e.0, e.1, omega (arith, c.requires.1, e.3), omega (arith, c.requires.1, e.4), e.5, e.6, omega (arith, c.requires.3, ap (λ u. length (encode u)) e.2, length_two 8 e.0 e.1)))))
+    (omega (arith, c.decreases), ((e.3, e.4), (e.0, e.1, omega (arith, c.requires.1, e.3), omega (arith, c.requires.1, e.4), e.5, e.6, omega (arith, c.requires.3, ap (λ u. length (encode u)) e.2, length_two 8 e.0 e.1))))
 
 pub write-returns-in-Sum : goal.write-returns-in-Sum
 write-returns-in-Sum t c =
@@ -94,7 +94,7 @@ write-returns-in-Sum t c =
 pub write-pair-requires-in-AtMost : goal.write-pair-requires-in-AtMost
 write-pair-requires-in-AtMost t c =
     let e = shape c.args.nodes.now c.args.root c.requires.0 (AtMost c.in-AtMost.l c.in-AtMost.r) c.requires.2 c.in-AtMost.is in
-    (omega (arith, c.decreases), (e.3, (e.4, (e.0, e.1, omega (arith, c.requires.1, e.3), omega (arith, c.requires.1, e.4), e.5, e.6, omega (arith, c.requires.3, ap (λ u. length (encode u)) e.2, length_two 9 e.0 e.1)))))
+    (omega (arith, c.decreases), ((e.3, e.4), (e.0, e.1, omega (arith, c.requires.1, e.3), omega (arith, c.requires.1, e.4), e.5, e.6, omega (arith, c.requires.3, ap (λ u. length (encode u)) e.2, length_two 9 e.0 e.1))))
 
 pub write-returns-in-AtMost : goal.write-returns-in-AtMost
 write-returns-in-AtMost t c =

@@ -587,7 +587,7 @@ function-body-requires t c =
     let on₁ = further s p q a ready (ap is_end begins) w.0 in
     let on₂ = further s q r a ready₁ (name_on (at q).token n.0) n.1 in
     let on₃ = further s r u a ready₂ (mark_on Arrow (at r).token y.0) y.1 in
-    (omega (arith, c.decreases, on₁, on₂, on₃, inside_text s u a ready₃), (ready₃, (omega (arith, n.3, n.4, ready₁.current.forward), (omega (arith, n.4, ready₁.current.inside), omega (arith, ready.room, on₁, on₂, on₃)))))
+    (omega (arith, c.decreases, on₁, on₂, on₃, inside_text s u a ready₃), (ready₃, ((omega (arith, n.3, n.4, ready₁.current.forward), omega (arith, n.4, ready₁.current.inside)), omega (arith, ready.room, on₁, on₂, on₃))))
 
 pub function-returns-in_err-body : goal.function-returns-in_err-body
 function-returns-in_err-body t c =
@@ -810,7 +810,7 @@ let_in-body-requires t c =
     let ready₅ = ready_on s z v b ready₄ o.1 in
     let on₄ = not_back s u z a ready₃ e.reads.2.0 in
     let on₅ = further s z v b ready₄ (mark_on In (at z).token o.0) o.1 in
-    (omega (arith, c.decreases, on₁, on₂, on₃, on₄, on₅, inside_text s v b ready₅), (ready₅, (omega (arith, n.3, n.4, ready₁.current.forward), (omega (arith, n.4, ready₁.current.inside), omega (arith, ready.room, e.restored.counted, on₁, on₂, on₃, on₄, on₅)))))
+    (omega (arith, c.decreases, on₁, on₂, on₃, on₄, on₅, inside_text s v b ready₅), (ready₅, ((omega (arith, n.3, n.4, ready₁.current.forward), omega (arith, n.4, ready₁.current.inside)), omega (arith, ready.room, e.restored.counted, on₁, on₂, on₃, on₄, on₅))))
 
 pub let_in-returns-in_err-body : goal.let_in-returns-in_err-body
 let_in-returns-in_err-body t c =
