@@ -1,6 +1,6 @@
 -- Types node by node are the types of terms. Assumes nothing.
-use mathlib.Core.Bool.{Bool, true, false, cond}
-use mathlib.Core.List.{List, [], ◌∷◌}
+use mathlib.Core.Bool.{cond}
+use mathlib.Core.List.{List, ◌∷◌}
 use mathlib.Core.Path.{◌≡◌, refl, sym, ◌∙◌, ap, subst}
 use borrow.Author.Tests.{lt-ltb, le-ltb}
 use lib.Dec.{ltb}
@@ -10,7 +10,7 @@ use Prim.Native.Nat.{ℕ, suc, ◌+◌, ◌≤◌, ◌<◌}
 use Rattle.syntax.specs.Tree.{Tree, number, truth, variable, function, application, let_in, sum, at_most, if_else, nodes}
 use Rattle.calculus.specs.Term.{numbered}
 use Rattle.calculus.specs.Types.{Ty, int, bool, ◌⇒◌, Has, RuleHas}
-use Rattle.calculus.specs.Conditions.{Assignment, Asks, Met, Meets, CannotMeet}
+use Rattle.calculus.specs.Conditions.{Assignment, Met, Meets, CannotMeet}
 use Rattle.calculus.specs.General.{ComesFrom, MostGeneral}
 use Rattle.calculus.specs.Laws.{TypedByConditions}
 

@@ -1,21 +1,20 @@
 -- Every typed rule has a length. Assumes nothing.
 use mathlib.Core.Bool.{Bool, true, false, cond, not, ◌&&◌}
 use mathlib.Core.List.{List, [], ◌∷◌, map}
-use mathlib.Core.Option.{Option, none, some}
+use mathlib.Core.Option.{some}
 use mathlib.Core.Path.{◌≡◌, refl, sym, ◌∙◌, ap, subst}
 use lib.IntN.{ℤ, ◌+ℤ◌}
 use lib.ListN.{length, replicate}
 use lib.Signed.{le_z}
 use native.Mathlib.Decide.{ℕ_discrete}
 use native.Mathlib.Omega.{arith}
-use Prim.Native.Nat.{ℕ, zero, suc, ◌≤◌, ◌<◌, ◌+◌}
-use Rattle.syntax.specs.Tree.{Tree}
+use Prim.Native.Nat.{ℕ, zero, suc, ◌<◌}
 use Rattle.calculus.specs.Term.{Term, number, truth, variable, function, application, let_in, sum, at_most, if_else, numbered}
 use Rattle.calculus.specs.Substitution.{find, or_else, put, put_one, Closed}
-use Rattle.calculus.specs.Types.{Ty, int, bool, ◌⇒◌, unknown, at, Has, RuleHas}
-use Rattle.calculus.specs.Step.{Next, rests, beyond, stuck, to, first, right_left, step, apply, add, compare, choose}
+use Rattle.calculus.specs.Types.{Ty, int, bool, ◌⇒◌, unknown, at, Has}
+use Rattle.calculus.specs.Step.{Next, rests, beyond, to, first, right_left, step, apply, add, compare, choose}
 use Rattle.calculus.specs.Range.{in_range}
-use Rattle.calculus.specs.Stages.{after, stage, start}
+use Rattle.calculus.specs.Stages.{after, stage}
 use Rattle.calculus.specs.Values.{number_of, truth_of, body_of}
 use Rattle.calculus.specs.Length.{over, ends, Length}
 use Rattle.calculus.specs.Laws.{HasLength}

@@ -1,5 +1,5 @@
 -- Every rule that has a type has a most general one. Assumes nothing.
-use mathlib.Core.Bool.{Bool, true, false, cond}
+use mathlib.Core.Bool.{cond}
 use mathlib.Core.List.{List, [], ◌∷◌, ◌++◌}
 use mathlib.Core.Option.{Option, none, some}
 use mathlib.Core.Path.{◌≡◌, refl, sym, ◌∙◌, ap, subst}
@@ -7,11 +7,11 @@ use borrow.Author.Tests.{eq-eqb, ne_eqb}
 use lib.Dec.{eqb}
 use lib.ListN.{replicate}
 use native.Mathlib.Omega.{arith}
-use Prim.Native.Nat.{ℕ, zero, suc, ◌+◌, ◌/◌, ◌%◌, ◌≤◌, ◌<◌}
+use Prim.Native.Nat.{ℕ, zero, suc, ◌+◌, ◌/◌, ◌%◌, ◌≤◌}
 use Rattle.syntax.specs.Tree.{Tree, number, truth, variable, function, application, let_in, sum, at_most, if_else, nodes}
-use Rattle.calculus.specs.Types.{Ty, int, bool, ◌⇒◌, unknown, at, RuleHas}
+use Rattle.calculus.specs.Types.{Ty, int, bool, ◌⇒◌, unknown, at}
 use Rattle.calculus.specs.Conditions.{Assignment, Met, Meets}
-use Rattle.calculus.specs.General.{put_types, ComesFrom, MostGeneral}
+use Rattle.calculus.specs.General.{put_types, MostGeneral}
 use Rattle.calculus.specs.Laws.{HasGeneralType}
 use Rattle.calculus.proofs.General.{put_all, at_put_all, put_all_readings}
 use Rattle.calculus.proofs.Conditions.{Agree, met_agree, type_conditions, general_by_conditions}

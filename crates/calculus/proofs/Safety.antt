@@ -1,14 +1,14 @@
 -- A typed rule is never stuck, a step keeps its types, and a value belongs to them. Assumes nothing.
 use mathlib.Core.Bool.{Bool, true, false, cond}
-use mathlib.Core.List.{List, [], ◌∷◌}
-use mathlib.Core.Option.{Option, none, some}
-use mathlib.Core.Path.{◌≡◌, refl, sym, ◌∙◌, ap, subst}
+use mathlib.Core.List.{[], ◌∷◌}
+use mathlib.Core.Option.{some}
+use mathlib.Core.Path.{◌≡◌, refl, sym, subst}
 use lib.IntN.{ℤ, ◌+ℤ◌}
 use native.Mathlib.Omega.{arith}
 use Prim.Native.Nat.{ℕ, zero, suc}
 use Rattle.calculus.specs.Term.{Term, number, truth, variable, function, application, let_in, sum, at_most, if_else}
 use Rattle.calculus.specs.Substitution.{put_one}
-use Rattle.calculus.specs.Types.{Ty, int, bool, ◌⇒◌, unknown, Has, Belongs}
+use Rattle.calculus.specs.Types.{Ty, int, bool, ◌⇒◌, Has, Belongs}
 use Rattle.calculus.specs.Step.{Next, rests, beyond, stuck, to, first, step, apply, add, compare, choose}
 use Rattle.calculus.specs.Range.{in_range}
 use Rattle.calculus.specs.Stages.{after, stage, start}

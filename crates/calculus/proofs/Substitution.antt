@@ -1,13 +1,12 @@
 -- Properties of substitution by closed terms. Assumes nothing.
 use mathlib.Core.List.{List, [], ◌∷◌}
-use mathlib.Core.Logic.{◌⊎◌, inl, inr}
-use mathlib.Core.Option.{Option, none, some}
+use mathlib.Core.Option.{none, some}
 use mathlib.Core.Path.{◌≡◌, refl, sym, ◌∙◌, ap, subst}
 use lib.ListN.{length}
 use native.Mathlib.Omega.{arith}
 use Prim.Native.Nat.{ℕ, zero, suc, ◌+◌, ◌≤◌, ◌<◌}
 use Rattle.calculus.specs.Term.{Term, number, truth, variable, function, application, let_in, sum, at_most, if_else}
-use Rattle.calculus.specs.Substitution.{find, or_else, put, put_one, Closed}
+use Rattle.calculus.specs.Substitution.{find, or_else, put, Closed}
 
 -- every term of a list is closed
 abbrev pub AllClosed : List Term → Type 0

@@ -1,15 +1,15 @@
 -- Properties of typing: closed, weakened, kept by substitution. Assumes nothing.
 use mathlib.Core.List.{List, [], ◌∷◌, ◌++◌, map}
-use mathlib.Core.Option.{Option, none, some}
-use mathlib.Core.Path.{◌≡◌, refl, sym, ◌∙◌, ap, subst}
+use mathlib.Core.Option.{none, some}
+use mathlib.Core.Path.{◌≡◌, refl, sym, subst}
 use lib.IntN.{ℤ}
 use lib.ListN.{length, replicate, length-replicate}
 use native.Mathlib.Omega.{arith}
-use Prim.Native.Nat.{ℕ, zero, suc, ◌+◌, ◌≤◌, ◌<◌}
+use Prim.Native.Nat.{ℕ, zero, suc, ◌<◌}
 use Rattle.syntax.specs.Tree.{Tree}
 use Rattle.calculus.specs.Term.{Term, number, truth, variable, function, application, let_in, sum, at_most, if_else, numbered}
 use Rattle.calculus.specs.Substitution.{find, or_else, put, put_one, Closed}
-use Rattle.calculus.specs.Types.{Ty, int, bool, ◌⇒◌, unknown, at, Has, RuleHas}
+use Rattle.calculus.specs.Types.{Ty, int, bool, ◌⇒◌, at, Has, RuleHas}
 use Rattle.calculus.specs.Stages.{start}
 use Rattle.calculus.specs.Laws.{TypedIsClosed}
 

@@ -1,5 +1,5 @@
 -- The same types, told node by node: what accepting a rule goes through. Assumes nothing.
-use Rattle.std.specs.Prelude.{List, [], ◌∷◌, ◌≡◌, replicate, ℕ, ◌+◌, ◌≤◌}
+use Rattle.std.specs.Prelude.{List, ◌∷◌, ◌≡◌, replicate, ℕ, ◌+◌, ◌≤◌}
 use Rattle.std.proofs.Math.Option.{some}
 use Rattle.syntax.specs.Tree.{Tree, number, truth, variable, function, application, let_in, sum, at_most, if_else, nodes}
 use Rattle.calculus.specs.Types.{Ty, int, bool, ◌⇒◌, at}

@@ -1,10 +1,10 @@
 -- Worked figures: rules with their lengths and answers. They pin what no law of ending or safety notices,
 -- the order of operands and the two ends of the number range. Assumes nothing.
-use Rattle.std.specs.Prelude.{Bool, true, false, List, [], ◌∷◌, ◌≡◌, ℤ, pos, negsuc, ℕ}
-use Rattle.std.proofs.Math.Option.{Option, none, some}
+use Rattle.std.specs.Prelude.{true, false, List, [], ◌∷◌, ◌≡◌, ℤ, pos, negsuc, ℕ}
+use Rattle.std.proofs.Math.Option.{some}
 use Rattle.syntax.specs.Tree.{Tree, number, truth, variable, function, application, let_in, sum, at_most, if_else}
 use Rattle.syntax.specs.Record.{record_of}
-use Rattle.calculus.specs.Types.{Ty, int, bool, ◌⇒◌, unknown, RuleHas}
+use Rattle.calculus.specs.Types.{Ty, int, ◌⇒◌, unknown, RuleHas}
 use Rattle.calculus.specs.Conditions.{Assignment, Meets, CannotMeet}
 use Rattle.calculus.specs.General.{MostGeneral, spelling}
 use Rattle.calculus.specs.Stages.{start, stage}

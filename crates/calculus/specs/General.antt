@@ -1,5 +1,5 @@
 -- The most general type of a rule, and its spelling. Assumes nothing.
-use Rattle.std.specs.Prelude.{Bool, true, false, cond, List, [], ◌∷◌, ◌++◌, ◌≡◌, eqb, ℕ, zero, suc, ◌+◌}
+use Rattle.std.specs.Prelude.{cond, List, [], ◌∷◌, ◌++◌, ◌≡◌, eqb, ℕ, suc, ◌+◌}
 use Rattle.syntax.specs.Tree.{Tree}
 use Rattle.calculus.specs.Types.{Ty, int, bool, ◌⇒◌, unknown, RuleHas}
 

@@ -1,7 +1,7 @@
 -- The reductions as rules. Assumes nothing.
-use Rattle.std.specs.Prelude.{Bool, true, false, ◌≡◌, ℤ, ◌+ℤ◌, ℕ}
+use Rattle.std.specs.Prelude.{true, false, ◌≡◌, ℤ, ◌+ℤ◌, ℕ}
 use Rattle.std.specs.Int.Signed.{le_z}
-use Rattle.calculus.specs.Term.{Term, number, truth, variable, function, application, let_in, sum, at_most, if_else}
+use Rattle.calculus.specs.Term.{Term, number, truth, function, application, let_in, sum, at_most, if_else}
 use Rattle.calculus.specs.Values.{is_value}
 use Rattle.calculus.specs.Substitution.{put_one}
 use Rattle.calculus.specs.Range.{in_range}

@@ -1,12 +1,12 @@
 -- The lists in slots, and what a further list does to them.
-use Rattle.std.proofs.Common.{◌≡◌, ℕ, zero, suc, ◌+◌, ◌-◌, ◌<◌, ◌≤◌, true, false, cond, eqb, ltb, leb, ◌≢◌, ◌⊎◌, List, [], ◌∷◌, length, get_or, Some, None, Ok, Option, sym, refl, ap, ◌∙◌, inl, inr, ⊎_elim, add-zero, add-one, arith}
+use Rattle.std.proofs.Common.{◌≡◌, ℕ, zero, suc, ◌+◌, ◌-◌, ◌<◌, ◌≤◌, eqb, ltb, leb, ◌≢◌, ◌⊎◌, List, ◌∷◌, length, get_or, Some, None, Ok, Option, sym, refl, ap, ◌∙◌, inl, inr, ⊎_elim, add-zero, add-one, arith}
 use Rattle.std.proofs.lemmas.Bool.{ltb-true, le-leb, lt-leb, lt-ltb, ne_eqb, eq-eqb, cond-true, cond-false, cases_lt, cases_eq, cases_Bool}
 use Rattle.std.proofs.lemmas.List.{get_or_past}
 use Rattle.store.specs.Lists.{Extended, Looked}
 use Rattle.store.proofs.Told.{some_none, some_some, ok_err}
 use Rattle.flat.specs.declared.slot.Slot.{Slot}
 use Rattle.flat.specs.declared.slot.Slot.TheVariants.{Spare, Element, Ends}
-use Rattle.flat.specs.Spans.{element_of, reads, ending, span_of, list_at, lists_of, whole_of, room_of, cost_of, Placed, Spanned}
+use Rattle.flat.specs.Spans.{element_of, reads, ending, span_of, list_at, lists_of, room_of, cost_of, Placed, Spanned}
 
 module _ {T : Type 0} where
   -- ending: only a slot that ends a list has a count, and the elements fit before it

@@ -1,11 +1,11 @@
 -- `fun`, `let` and `if`, part by part. Assumes nothing.
-use Rattle.std.proofs.Common.{◌≡◌, ℕ, Bool, true, false, cond, List, [], ◌∷◌, sym, refl, ap, ◌∙◌, true≢false}
+use Rattle.std.proofs.Common.{◌≡◌, ℕ, true, cond, List, [], ◌∷◌, sym, refl, ap, ◌∙◌, true≢false}
 use Rattle.grammar.specs.declared.Mark.{Mark}
 use Rattle.grammar.specs.declared.Mark.TheVariants.{Fun, Let, In, If, Then, Else, Arrow, Equals}
 use Rattle.grammar.specs.Token.{Name, Token, mark, name, numeral, end, is}
 use Rattle.grammar.specs.Grammar.{Expr, lambda, let_in, if_else}
 use Rattle.grammar.specs.Reading.{part}
-use Rattle.grammar.specs.Automaton.{Frame, fun_body, let_bound, let_body, condition, then_branch, else_branch, State, fun_name, fun_arrow, let_name, let_equals, go, stuck, is_end, start, at_binder, scope, step, in_force}
+use Rattle.grammar.specs.Automaton.{Frame, fun_body, let_bound, let_body, condition, then_branch, else_branch, State, fun_name, fun_arrow, let_name, let_equals, go, stuck, is_end, start, at_binder, step, in_force}
 use Rattle.grammar.specs.Walking.{Stand, Current, Went, Unread, Missed, is_name}
 use Rattle.grammar.specs.Classes.{ReadExpr, RefusedExpr}
 use Rattle.grammar.proofs.Walking.{mark_on, name_on}

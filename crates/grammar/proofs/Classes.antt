@@ -1,6 +1,6 @@
 -- Reading the classes of the grammar one inside the other: what each function of the parser comes to.
 -- Assumes nothing.
-use Rattle.std.proofs.Common.{◌≡◌, ℕ, Bool, true, false, cond, ◌⊎◌, List, [], ◌∷◌, ◌++◌, ℤ, sym, refl, ap, ◌∙◌, subst, inl, inr, true≢false, arith}
+use Rattle.std.proofs.Common.{◌≡◌, ℕ, Bool, true, false, cond, List, [], ◌∷◌, ℤ, sym, refl, ap, ◌∙◌, true≢false, arith}
 use mathlib.Core.Option.{Option, some, none}
 use Rattle.grammar.specs.declared.Mark.{Mark}
 use Rattle.grammar.specs.declared.Mark.TheVariants.{Fun, Let, In, If, Then, Else, True, False, Arrow, Equals, AtMost, Plus, Open, Close}
@@ -8,7 +8,7 @@ use Rattle.grammar.specs.Token.{Name, Token, mark, name, numeral, end, is}
 use Rattle.grammar.specs.Names.{distance}
 use Rattle.grammar.specs.Grammar.{Expr, literal, boolean, used, lambda, apply, let_in, plus, at_most, if_else}
 use Rattle.grammar.specs.Automaton.{Frame, paren, fun_body, let_bound, let_body, condition, then_branch, else_branch, State, operand, fun_name, fun_arrow, let_name, let_equals, Outcome, go, stuck, unknown, applied, summed, compared, start, is_end, close, at_binder, scope, and_then, step, run, found, any, in_force, starts_atom}
-use Rattle.grammar.specs.Walking.{Stand, Went, here, Unread, Wrong, no_sentence, no_name, unread, Reached, Through, Refuses, Expects, Missed, is_name}
+use Rattle.grammar.specs.Walking.{Stand, Went, here, Unread, no_sentence, no_name, unread, Reached, Through, Expects, Missed}
 use Rattle.grammar.specs.Classes.{ReadAtom, ReadApp, ReadSum, ReadExpr, RefusedAtom, RefusedApp, RefusedSum, RefusedCmp, RefusedExpr}
 use Rattle.grammar.proofs.Walking.{through_one, through-++, through_current, went_current, reached_here, reached_over, reached-++, reached_refuses, reached_wrong, asked_over, missed_wrong, unread_refuses, mark_on}
 

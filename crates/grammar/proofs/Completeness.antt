@@ -1,13 +1,12 @@
 -- The automaton goes through every derivation: what derives is read without getting stuck, and to
 -- the derivation's tree. Assumes nothing.
-use Rattle.std.proofs.Common.{◌≡◌, Bool, true, false, cond, List, [], ◌∷◌, ◌++◌, sym, refl, ap, ◌∙◌, subst, append_assoc}
+use Rattle.std.proofs.Common.{◌≡◌, Bool, List, [], ◌∷◌, ◌++◌, sym, refl, ap, ◌∙◌, append_assoc}
 use mathlib.Core.Option.{Option, some, none}
-use Rattle.grammar.specs.declared.Mark.{Mark}
-use Rattle.grammar.specs.declared.Mark.TheVariants.{Fun, Let, In, If, Then, Else, True, False, Arrow, Equals, AtMost, Plus, Open, Close}
-use Rattle.grammar.specs.Token.{Name, Token, mark, name, numeral, end}
+use Rattle.grammar.specs.declared.Mark.TheVariants.{In, Then, Else, AtMost, Plus, Close}
+use Rattle.grammar.specs.Token.{Name, Token, mark, end}
 use Rattle.grammar.specs.Grammar
 use Rattle.grammar.specs.Grammar.{Expr, literal, boolean, used, lambda, apply, let_in, plus, at_most, if_else, Class, expr, cmp, sum, app, atom, Derives}
-use Rattle.grammar.specs.Automaton.{Frame, paren, fun_body, let_bound, let_body, condition, then_branch, else_branch, State, operand, Outcome, go, stuck, unknown, applied, summed, compared, start, close, closed, scope, and_then, step, run, Fits}
+use Rattle.grammar.specs.Automaton.{Frame, paren, fun_body, let_bound, let_body, condition, then_branch, else_branch, State, operand, Outcome, go, stuck, unknown, applied, summed, compared, start, close, scope, and_then, step, run, Fits}
 
 -- a token that ends an expression
 pub data Ender : Token → Type 0 where

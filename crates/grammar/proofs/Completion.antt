@@ -1,11 +1,11 @@
 -- From every state some tokens lead to the end: what has been read so far begins a sentence. Assumes
 -- nothing.
-use Rattle.std.proofs.Common.{◌≡◌, Bool, List, [], ◌∷◌, ◌++◌, pos, refl, ap, ◌∙◌}
+use Rattle.std.proofs.Common.{◌≡◌, Bool, List, [], ◌∷◌, pos, refl, ap, ◌∙◌}
 use mathlib.Core.Option.{Option, some, none}
 use Rattle.grammar.specs.declared.Mark.TheVariants.{In, Then, Else, Arrow, Equals, Close}
 use Rattle.grammar.specs.Token.{Name, Token, mark, name, numeral, end}
 use Rattle.grammar.specs.Grammar.{Expr, literal, lambda, let_in, if_else}
-use Rattle.grammar.specs.Automaton.{Frame, paren, fun_body, let_bound, let_body, condition, then_branch, else_branch, State, operand, fun_name, fun_arrow, let_name, let_equals, accepted, Outcome, go, applied, summed, compared, close, and_then, step, run}
+use Rattle.grammar.specs.Automaton.{Frame, paren, fun_body, let_bound, let_body, condition, then_branch, else_branch, State, operand, fun_name, fun_arrow, let_name, let_equals, accepted, Outcome, go, applied, summed, compared, close, and_then, run}
 use Rattle.grammar.proofs.Completeness.{Ender, in_ends, then_ends, else_ends, close_ends, end_ends, step_ender}
 
 zero : Token

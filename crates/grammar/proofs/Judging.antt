@@ -1,15 +1,14 @@
 -- The laws of judging: the automaton goes on exactly as long as the tokens begin a sentence, it is at
 -- a loss over a name exactly where that name is not in force, and what it accepts is the one tree.
 -- Assumes nothing.
-use Rattle.std.proofs.Common.{◌≡◌, ℕ, Bool, true, false, cond, List, [], ◌∷◌, ◌++◌, sym, refl, ap, ◌∙◌, subst, true≢false, append_assoc}
+use Rattle.std.proofs.Common.{◌≡◌, ℕ, Bool, true, false, cond, List, [], ◌∷◌, ◌++◌, sym, refl, ap, ◌∙◌, true≢false}
 use mathlib.Core.Option.{Option, some, none}
 use Rattle.syntax.specs.Tree.{Tree}
-use Rattle.grammar.specs.declared.Mark.{Mark}
 use Rattle.grammar.specs.Token.{Name, Token, mark, name, numeral, end}
 use Rattle.grammar.specs.Grammar.{Expr, literal, boolean, used, lambda, apply, let_in, plus, at_most, if_else, expr, Derives}
 use Rattle.grammar.specs.Names.{distance, one, two, three, variable_at, resolved}
 use Rattle.grammar.specs.Sentence.{Sentence, Begins, BeginsBound}
-use Rattle.grammar.specs.Automaton.{Frame, State, operand, fun_name, fun_arrow, let_name, let_equals, accepted, Outcome, go, stuck, unknown, applied, start, scope, and_then, step, run, Fits, found, any, in_force}
+use Rattle.grammar.specs.Automaton.{State, operand, fun_name, fun_arrow, let_name, let_equals, accepted, Outcome, go, stuck, unknown, applied, start, scope, and_then, step, run, Fits, found, any, in_force}
 use Rattle.grammar.proofs.Completeness.{run-++, run_snoc, run_from, reads_to, end_ends}
 use Rattle.grammar.proofs.Soundness.{spelled, Spelled}
 use Rattle.grammar.proofs.Completion.{accepts}

@@ -1,10 +1,10 @@
 -- What a lexer finds byte by byte, as the longest token. Assumes nothing.
-use Rattle.std.proofs.Common.{◌≡◌, ℕ, zero, suc, ◌+◌, ◌-◌, ◌<◌, ◌≤◌, Bool, true, false, cond, ◌&&◌, ◌||◌, eqb, ◌⊎◌, List, [], ◌∷◌, length, get_or, take, drop, pos, neg_ℤ, codes, sym, refl, ap, ◌∙◌, subst, inl, inr, ⊎_elim, add-one, arith, length-drop, length-take, drop-cons, ne_eqb}
-use mathlib.Core.Option.{Option, some, none}
+use Rattle.std.proofs.Common.{◌≡◌, ℕ, zero, suc, ◌+◌, ◌-◌, ◌<◌, ◌≤◌, Bool, true, false, ◌&&◌, eqb, ◌⊎◌, List, [], ◌∷◌, length, get_or, take, drop, pos, neg_ℤ, sym, refl, ap, ◌∙◌, subst, inl, inr, ⊎_elim, add-one, arith, drop-cons, ne_eqb}
+use mathlib.Core.Option.{some, none}
 use Rattle.std.proofs.lemmas.Bool.Decides.{nat_tests}
 use Rattle.std.proofs.str.Laws.{order}
-use Rattle.grammar.specs.Token.{Token, mark, numeral}
-use Rattle.grammar.specs.Spelling.{letter, digit, word_byte, all, digits, decimal, word, sign, number, token}
+use Rattle.grammar.specs.Token.{Token, numeral}
+use Rattle.grammar.specs.Spelling.{letter, digit, word_byte, all, decimal, word, sign, token}
 use Rattle.grammar.specs.Reading.{part, NoneBeyond, Longest}
 
 and_true : (a b : Bool) → a ≡ true → b ≡ true → a && b ≡ true

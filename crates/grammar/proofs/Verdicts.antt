@@ -1,15 +1,14 @@
 -- From what the parser came to, the verdict; and that a text has only one. Assumes nothing.
-use Rattle.std.proofs.Common.{◌≡◌, ℕ, ◌<◌, ◌≤◌, Bool, true, false, cond, List, [], ◌∷◌, ◌++◌, length, sym, refl, ap, ◌∙◌, subst, true≢false, append_assoc, append-nil}
+use Rattle.std.proofs.Common.{◌≡◌, ℕ, ◌≤◌, true, false, cond, List, [], ◌∷◌, ◌++◌, length, sym, refl, ap, ◌∙◌, subst, true≢false, append_assoc, append-nil}
 use mathlib.Core.Option.{some}
 use Rattle.syntax.specs.Tree.{Tree}
 use Rattle.grammar.specs.Token.{Name, Token, mark, name, numeral, end}
 use Rattle.grammar.specs.Spelling.{fit}
-use Rattle.grammar.specs.Reading.{Next, NoNext}
+use Rattle.grammar.specs.Reading.{Next}
 use Rattle.grammar.specs.Grammar.{Expr}
 use Rattle.grammar.specs.Names.{resolved}
-use Rattle.grammar.specs.Sentence.{Sentence, Begins, BeginsBound}
-use Rattle.grammar.specs.Automaton.{State, accepted, go, stuck, is_end, start, close, and_then, step, run, in_force}
-use Rattle.grammar.specs.Walking.{Stand, Went, Passes, here, over, Unread, no_token, no_range, Reached, Wrong, unread, no_sentence, no_name, Refuses}
+use Rattle.grammar.specs.Automaton.{State, accepted, go, stuck, is_end, start, run, in_force}
+use Rattle.grammar.specs.Walking.{Stand, Went, Passes, here, over, Unread, no_token, no_range, Wrong, unread, no_sentence, no_name}
 use Rattle.grammar.specs.Classes.{ReadExpr, RefusedExpr}
 use Rattle.grammar.specs.Verdict as verdict
 use Rattle.grammar.specs.Verdict.{Front, none_yet, and_next, Sofar, Means, Outcome, refused, Verdict}

@@ -1,16 +1,15 @@
 -- Going over tokens, and where that ends in a refusal. Assumes nothing.
-use Rattle.std.proofs.Common.{◌≡◌, ℕ, ◌<◌, ◌≤◌, Bool, true, false, cond, ◌&&◌, eqb, ◌⊎◌, List, [], ◌∷◌, ◌++◌, length, pos, neg_ℤ, codes, sym, refl, ap, ◌∙◌, subst, inl, inr, ⊎_elim, true≢false, arith}
+use Rattle.std.proofs.Common.{◌≡◌, ℕ, ◌≤◌, Bool, true, false, cond, ◌&&◌, eqb, List, [], ◌∷◌, ◌++◌, length, pos, neg_ℤ, codes, sym, refl, ap, ◌∙◌, subst, ⊎_elim, true≢false, arith}
 use mathlib.Core.Option.{Option, some, none}
 use Rattle.grammar.specs.declared.Mark.{Mark}
 use Rattle.grammar.specs.declared.Mark.TheVariants.{Arrow, Equals, AtMost, Plus, Open, Close}
 use Rattle.grammar.specs.Token.{Name, Token, mark, name, numeral, end, is}
 use Rattle.grammar.specs.Names.{same}
-use Rattle.grammar.specs.Spelling.{letter, word_byte, all, digits, word, number, sign, or_else, token, decimal, fit}
-use Rattle.grammar.specs.Reading.{part, Next, Longest}
-use Rattle.grammar.specs.Automaton.{State, Outcome, go, stuck, unknown, is_end, and_then, step, run, any, in_force}
+use Rattle.grammar.specs.Spelling.{letter, word_byte, all, digits, word, number, sign, or_else, token, decimal}
+use Rattle.grammar.specs.Reading.{Longest}
+use Rattle.grammar.specs.Automaton.{State, go, stuck, is_end, and_then, step, run, in_force}
 use Rattle.grammar.specs.Walking.{Stand, Current, Went, Passes, here, over, Unread, Reached, Through, Wrong, unread, no_sentence, Refuses, Missed, is_name}
 use Rattle.grammar.proofs.Completeness.{run-++}
-use Rattle.grammar.proofs.Soundness.{is_mark}
 
 -- ── a name token is its own bytes ──
 

@@ -1,10 +1,9 @@
 -- What reading one class of the grammar comes to, whatever is open around it. Assumes nothing.
-use Rattle.std.specs.Prelude.{◌≡◌, ℕ, ◌≤◌, Bool, true, false, List}
+use Rattle.std.specs.Prelude.{◌≡◌, ℕ, ◌≤◌, List}
 use Rattle.std.proofs.Math.Option.{Option, some, none}
-use Rattle.grammar.specs.declared.Mark.TheVariants.{Plus}
-use Rattle.grammar.specs.Token.{Name, Token, is}
+use Rattle.grammar.specs.Token.{Name}
 use Rattle.grammar.specs.Grammar.{Expr}
-use Rattle.grammar.specs.Automaton.{Frame, State, operand, go, applied, summed, start, close, scope, step, in_force}
+use Rattle.grammar.specs.Automaton.{Frame, State, operand, applied, summed, start, close, scope, step, in_force}
 use Rattle.grammar.specs.Walking.{Stand, Through, Reached, Refuses, Expects}
 
 -- book: the readings' names; names: all names in force; from p to q the class with tree e is read

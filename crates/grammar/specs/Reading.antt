@@ -1,5 +1,5 @@
 -- How a text is cut into tokens: blanks are passed over, and the longest token wins. Assumes nothing.
-use Rattle.std.specs.Prelude.{◌≡◌, ℕ, ◌-◌, ◌<◌, ◌≤◌, true, false, ◌⊎◌, List, [], ◌∷◌, length, slice_index, slice_range}
+use Rattle.std.specs.Prelude.{◌≡◌, ℕ, ◌<◌, ◌≤◌, true, false, ◌⊎◌, List, length, slice_index, slice_range}
 use Rattle.std.proofs.Math.Option.{some, none}
 use Rattle.grammar.specs.Token.{Token, end}
 use Rattle.grammar.specs.Spelling.{blank, token}

@@ -1,6 +1,6 @@
 -- Sentences, and what begins one. Assumes nothing.
 use Rattle.std.specs.Prelude.{◌≡◌, List, [], ◌∷◌, ◌++◌}
-use Rattle.std.proofs.Math.Option.{Option, some}
+use Rattle.std.proofs.Math.Option.{some}
 use Rattle.syntax.specs.Tree.{Tree}
 use Rattle.grammar.specs.Token.{Name, Token, end}
 use Rattle.grammar.specs.Grammar.{Expr, Derives, expr}

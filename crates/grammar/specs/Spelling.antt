@@ -6,10 +6,9 @@
 --   blanks   space, tab, line feed, carriage return
 use Rattle.std.specs.Prelude.{ℕ, ◌+◌, ◌-◌, ◌*◌, Bool, true, false, cond, ◌&&◌, ◌||◌, List, [], ◌∷◌, ℤ, pos, negsuc, neg_ℤ, codes, ◌==◌, nat_le, nat_lt}
 use Rattle.std.proofs.Math.Option.{Option, some, none}
-use Rattle.grammar.specs.declared.Mark.{Mark}
 use Rattle.grammar.specs.declared.Mark.TheVariants.{Fun, Let, In, If, Then, Else, True, False, Arrow, Equals, AtMost, Plus, Open, Close}
 use Rattle.grammar.specs.Names.{same}
-use Rattle.grammar.specs.Token.{Name, Token, mark, name, numeral, end}
+use Rattle.grammar.specs.Token.{Token, mark, name, numeral, end}
 
 abbrev pub within : ℕ → ℕ → ℕ → Bool
 within a b c = nat_le a c && nat_le c b

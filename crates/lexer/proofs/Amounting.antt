@@ -1,5 +1,5 @@
 -- What the answer of `amount` says of the number. Assumes nothing.
-use Rattle.std.proofs.Common.{◌≡◌, ℕ, true, false, ℤ, is_some, Some, None, Option, arith}
+use Rattle.std.proofs.Common.{◌≡◌, ℕ, false, ℤ, is_some, Some, None, Option, arith}
 use Rattle.grammar.specs.Spelling.{in_range}
 use Rattle.lexer.specs.Amounts.{Amount}
 

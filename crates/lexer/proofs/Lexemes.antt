@@ -1,10 +1,9 @@
 -- The tokens that the lexer makes are the longest ones. Assumes nothing.
-use Rattle.std.proofs.Common.{◌≡◌, ℕ, ◌+◌, ◌<◌, ◌≤◌, Bool, true, false, cond, eqb, List, [], ◌∷◌, length, get_or, pos, neg_ℤ, sym, refl, ap, ◌∙◌, subst, ⊎_elim, arith, ne_eqb}
-use mathlib.Core.Option.{some, none}
+use Rattle.std.proofs.Common.{◌≡◌, ℕ, ◌+◌, ◌<◌, ◌≤◌, true, false, eqb, List, ◌∷◌, length, get_or, pos, neg_ℤ, sym, refl, ap, ◌∙◌, subst, arith, ne_eqb}
 use Rattle.std.proofs.lemmas.Bool.Decides.{nat_tests}
 use Rattle.grammar.specs.Token.{mark, numeral}
 use Rattle.grammar.specs.Token as plain
-use Rattle.grammar.specs.Spelling.{letter, digit, decimal, token}
+use Rattle.grammar.specs.Spelling.{letter, digit, decimal}
 use Rattle.grammar.specs.Reading.{part, Longest, NoneBeyond}
 use Rattle.grammar.proofs.Lexing.{part_cons, longest_digits, longest_minus, none_at}
 use Rattle.lexer.specs.declared.token.Placed.{Placed}

@@ -2,16 +2,16 @@
 use mathlib.Core.Bool.{Bool}
 use mathlib.Core.List.{List}
 use mathlib.Core.Logic.{◌≢◌}
-use mathlib.Core.Path.{◌≡◌, refl, sym, ◌∙◌, ap}
+use mathlib.Core.Path.{◌≡◌, refl, ◌∙◌, ap}
 use lib.IntN.{pos}
-use lib.ListN.{length, get_or, set, length-append}
+use lib.ListN.{length, length-append}
 use lib.Seq.{get_or-set_same, get_or-set_other}
 use native.Mathlib.Omega.{arith}
 use Prim.Native.Nat.{ℕ, ◌+◌, ◌≤◌, ◌<◌}
 use Rattle.syntax.specs.Tree.{Tree, nodes, number, truth, variable, function, application, let_in, sum, at_most, if_else}
 use Rattle.syntax.specs.Record.{encode}
 use Rattle.nodes.specs.declared.node.Node.{Node}
-use Rattle.nodes.specs.declared.node.Node.TheVariants.{Number, Truth, Variable, Function, Application, LetIn, Sum, AtMost, IfElse}
+use Rattle.nodes.specs.declared.node.Node.TheVariants.{Number, Function, Application, LetIn, Sum, AtMost, IfElse}
 use Rattle.nodes.specs.declared.node.Table.{Table}
 use Rattle.nodes.specs.Nodes.{width, at, Holds, Pushed, Grown, One}
 

@@ -1,5 +1,5 @@
 -- The table of nodes, and the trees that it holds. Assumes nothing.
-use Rattle.std.specs.Prelude.{Bool, List, ◌≡◌, pos, length, get_or, set, take, ℕ, min, ◌+◌, ◌≤◌, ◌<◌}
+use Rattle.std.specs.Prelude.{List, ◌≡◌, pos, length, get_or, set, ℕ, min, ◌+◌, ◌≤◌, ◌<◌}
 use Rattle.syntax.specs.Tree.{Tree, nodes, number, truth, variable, function, application, let_in, sum, at_most, if_else}
 use Rattle.syntax.specs.Record.{encode}
 use Rattle.nodes.specs.declared.node.Node.{Node}

@@ -1,6 +1,6 @@
 -- The reckoning is at the stages as long as room suffices. Assumes nothing.
 use mathlib.Core.Bool.{Bool, true, false}
-use mathlib.Core.List.{List, [], ◌∷◌, map}
+use mathlib.Core.List.{List, ◌∷◌}
 use mathlib.Core.Option.{Option, none, some}
 use mathlib.Core.Path.{◌≡◌, refl, sym, ◌∙◌, ap, subst}
 use lib.Dec.{leb, leb→le, T}
@@ -8,7 +8,7 @@ use lib.IntN.{ℤ}
 use lib.ListN.{length, replicate, length-replicate}
 use native.Mathlib.Decide.{ℕ_discrete}
 use native.Mathlib.Omega.{arith}
-use Prim.Native.Nat.{ℕ, zero, suc, ◌+◌, ◌-◌, ◌≤◌, ◌<◌, min}
+use Prim.Native.Nat.{ℕ, zero, suc, ◌≤◌, ◌<◌, min}
 use Rattle.syntax.specs.Tree.{Tree}
 use Rattle.calculus.specs.Term.{Term, numbered}
 use Rattle.calculus.specs.Substitution.{put, Closed}
@@ -19,14 +19,14 @@ use Rattle.calculus.specs.Length.{Answer, Length, answer, ends, told, value_answ
 use Rattle.calculus.specs.Length as Length
 use Rattle.calculus.proofs.Typing.{has_closed}
 use Rattle.calculus.proofs.Safety.{never_stuck}
-use Rattle.reckoning.specs.Environments.{Value, Env, number, truth, function, base, size, answer_of, value_term, env_terms}
-use Rattle.reckoning.specs.Work.{Work, done, met, as_stage}
+use Rattle.reckoning.specs.Environments.{Value, Env, number, truth, function, base, size, answer_of, value_term}
+use Rattle.reckoning.specs.Work.{Work, done, as_stage}
 use Rattle.reckoning.specs.Moves.{Move, rests, beyond, stuck, plain, makes, move}
 use Rattle.reckoning.specs.Room.{Room, price, spent, free}
-use Rattle.reckoning.specs.Reckoning.{Reckoned, State, waiting, over, no_store, no_stack, result, ahead, shortage, state, goes_on, extends, reduces, if_waiting, granted, reckoned}
+use Rattle.reckoning.specs.Reckoning.{Reckoned, State, waiting, over, no_store, no_stack, result, ahead, shortage, state, goes_on, extends, reduces, if_waiting, reckoned}
 use Rattle.reckoning.specs.Open.{one_too_many}
-use Rattle.reckoning.specs.Laws.{stage_state, Suffices, AtStages, FollowsStages, WithinWhole, Stays}
-use Rattle.reckoning.proofs.Scoped.{Scoped, ScopedWork, ScopedMove, met_scoped, base_scoped, size_base, move_scoped}
+use Rattle.reckoning.specs.Laws.{stage_state, Suffices, FollowsStages, WithinWhole, Stays}
+use Rattle.reckoning.proofs.Scoped.{ScopedWork, ScopedMove, met_scoped, base_scoped, size_base, move_scoped}
 use Rattle.reckoning.proofs.Following.{as_next, follows, met_stage, env_terms_base, rests_done}
 
 not_both : {A : Type 0} (b : Bool) → b ≡ true → b ≡ false → A

@@ -1,10 +1,10 @@
 -- Worked figures of room. They pin costs, the 256 open operations and where a run is short. Assumes nothing.
-use Rattle.std.specs.Prelude.{Bool, true, false, List, [], ◌∷◌, ◌≡◌, ℤ, pos, length, ℕ, zero, suc, ◌+◌, ◌-◌}
-use Rattle.syntax.specs.Tree.{Tree, number, variable, application, let_in, sum}
+use Rattle.std.specs.Prelude.{List, [], ◌∷◌, ◌≡◌, ℤ, pos, length, ℕ, zero, suc, ◌+◌, ◌-◌}
+use Rattle.syntax.specs.Tree.{Tree, number, variable, let_in, sum}
 use Rattle.calculus.specs.Term.{Term}
 use Rattle.calculus.specs.Length.{Answer}
 use Rattle.calculus.specs.Figures.{thrice, heating, leaving}
-use Rattle.reckoning.specs.Environments.{Value, Env, empty, ◌before◌}
+use Rattle.reckoning.specs.Environments.{Value, empty, ◌before◌}
 use Rattle.reckoning.specs.Room.{Room, free}
 use Rattle.reckoning.specs.Reckoning.{State, waiting, over, no_store, no_stack, state, reckoned}
 

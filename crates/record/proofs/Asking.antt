@@ -1,13 +1,13 @@
 -- What a node's own bytes answer to the questions. Assumes nothing.
-use Rattle.std.proofs.Common.{◌≡◌, ℕ, ◌+◌, ◌*◌, ◌/◌, ◌%◌, ◌<◌, ◌≤◌, Bool, true, false, List, [], ◌∷◌, length, get_or, sym, refl, ap, ◌∙◌, subst, arith}
-use mathlib.Core.Option.{some, none}
+use Rattle.std.proofs.Common.{◌≡◌, ℕ, ◌+◌, ◌<◌, ◌≤◌, true, false, List, ◌∷◌, length, get_or, sym, refl, subst, arith}
+use mathlib.Core.Option.{none}
 use Rattle.std.proofs.lemmas.Bool.Decides.{nat_tests}
 use Rattle.syntax.specs.Record.{two_bytes, four_bytes}
 use Rattle.record.specs.declared.head.Head.{Head}
 use Rattle.record.specs.declared.head.Head.TheVariants.{Number, Truth, Variable, Function, Application, LetIn, Sum, AtMost, IfElse}
 use Rattle.record.specs.Bytes.{Stands, two_at}
-use Rattle.record.specs.Questions.{asked, width, children}
-use Rattle.record.specs.Reading.{opening, Fine, Opens}
+use Rattle.record.specs.Questions.{asked, width}
+use Rattle.record.specs.Reading.{opening, Opens}
 use Rattle.record.proofs.Standing.{stands_inside}
 
 -- the kind byte of a node

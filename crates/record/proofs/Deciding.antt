@@ -1,5 +1,5 @@
 -- A byte string is the record of one tree, or gets one refusal. Assumes nothing.
-use Rattle.std.proofs.Common.{◌≡◌, ℕ, ◌+◌, ◌*◌, ◌/◌, ◌%◌, ◌<◌, ◌≤◌, Bool, true, false, ◌⊎◌, List, [], ◌∷◌, ◌++◌, length, get_or, drop, sym, refl, ap, ◌∙◌, subst, inl, inr, append-nil, arith, length-append}
+use Rattle.std.proofs.Common.{◌≡◌, ℕ, ◌+◌, ◌*◌, ◌/◌, ◌%◌, ◌<◌, ◌≤◌, true, false, List, [], ◌∷◌, ◌++◌, length, get_or, drop, sym, refl, ap, ◌∙◌, inl, inr, append-nil, arith, length-append}
 use mathlib.Core.Option.{Option, some, none}
 use Rattle.std.proofs.lemmas.Bool.Decides.{nat_tests}
 use Rattle.syntax.specs.Tree.{Tree, number, truth, variable, function, application, let_in, sum, at_most, if_else, nodes}
@@ -7,7 +7,7 @@ use Rattle.syntax.specs.Record.{encode, record_of}
 use Rattle.record.specs.Bytes.{Stands, two_at}
 use Rattle.record.specs.Laws.{OneReading}
 use Rattle.record.specs.Proper.{Sendable}
-use Rattle.record.specs.Questions.{front, asked, Refused, here, later, spare, Refusal}
+use Rattle.record.specs.Questions.{front, Refused, here, later, spare, Refusal}
 use Rattle.record.proofs.Decoding.{decode, decode_encode}
 use Rattle.record.proofs.Standing.{stands_behind}
 use Rattle.record.proofs.Walking.{over}

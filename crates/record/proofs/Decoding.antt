@@ -1,10 +1,10 @@
 -- A tree back from its bytes: no two trees have the same. Assumes nothing.
-use Rattle.std.proofs.Common.{◌≡◌, ℕ, zero, suc, ◌+◌, ◌*◌, ◌/◌, ◌%◌, ◌^◌, ◌<◌, ◌≤◌, Bool, true, false, cond, eqb, List, [], ◌∷◌, ◌++◌, ℤ, sym, refl, ap, ◌∙◌, subst, append_assoc, mod-eq_of_lt, arith, w32, SFits, to_z, of_z}
+use Rattle.std.proofs.Common.{◌≡◌, ℕ, zero, suc, ◌+◌, ◌*◌, ◌/◌, ◌%◌, ◌<◌, ◌≤◌, true, false, cond, eqb, List, [], ◌∷◌, ◌++◌, ℤ, sym, refl, ap, ◌∙◌, append_assoc, mod-eq_of_lt, arith, w32, SFits, to_z, of_z}
 use mathlib.Core.Option.{Option, some, none}
 use native.Mathlib.Nat.{div-div-eq-div-mul}
 use Rattle.std.proofs.lemmas.Int.{to_z-of_z, ints}
 use Rattle.syntax.specs.Tree.{Tree, number, truth, variable, function, application, let_in, sum, at_most, if_else, nodes}
-use Rattle.syntax.specs.Record.{encode, two_bytes, four_bytes}
+use Rattle.syntax.specs.Record.{encode}
 use Rattle.record.specs.Proper.{Proper}
 use Rattle.record.proofs.Holding.{some_node}
 

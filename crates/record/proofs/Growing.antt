@@ -1,10 +1,10 @@
 -- What a table holds after a node was put before its children, and which refusals come through. Assumes nothing.
-use Rattle.std.proofs.Common.{◌≡◌, ℕ, ◌+◌, ◌<◌, ◌≤◌, Bool, true, false, ◌≢◌, List, [], ◌∷◌, ◌++◌, length, set, pos, sym, refl, ap, ◌∙◌, subst, arith, length-append, length-set, get_or-set_other, get_or-set_same}
-use Rattle.syntax.specs.Tree.{Tree, nodes, truth, function, application, let_in, sum, at_most, if_else}
+use Rattle.std.proofs.Common.{◌≡◌, ℕ, ◌+◌, ◌<◌, ◌≤◌, Bool, true, false, ◌≢◌, List, [], ◌∷◌, ◌++◌, length, set, pos, sym, refl, ap, ◌∙◌, subst, arith, length-append, get_or-set_other, get_or-set_same}
+use Rattle.syntax.specs.Tree.{Tree, nodes, truth, function, if_else}
 use Rattle.syntax.specs.Record.{encode}
 use Rattle.record.specs.declared.head.Head.{Head}
 use Rattle.record.specs.declared.node.Node.{Node}
-use Rattle.record.specs.declared.node.Node.TheVariants.{Number, Truth, Function, Application, LetIn, Sum, AtMost, IfElse}
+use Rattle.record.specs.declared.node.Node.TheVariants.{Number, Truth, Function, IfElse}
 use Rattle.record.specs.declared.node.Nodes.{Nodes}
 use Rattle.record.specs.Bytes.{Stands}
 use Rattle.record.specs.Nodes.{node_at, Holds}
@@ -13,7 +13,7 @@ use Rattle.record.specs.Questions.{children, Refused}
 use Rattle.record.specs.Reading.{opening, Opens, Grown, GrownTwice}
 use Rattle.record.proofs.Asking.{kind}
 use Rattle.record.proofs.Holding.{holds_same, some_node}
-use Rattle.record.proofs.Standing.{stands_inside, stands_join}
+use Rattle.record.proofs.Standing.{stands_join}
 use Rattle.record.proofs.Walking.{past, over}
 
 -- ── refusals ──

@@ -1,12 +1,11 @@
 -- A whole record. Assumes nothing.
-use Rattle.std.proofs.Common.{◌≡◌, ℕ, ◌+◌, ◌-◌, ◌<◌, ◌≤◌, List, [], ◌∷◌, ◌++◌, length, get_or, drop, Ok, sym, refl, ap, ◌∙◌, subst, inr, arith}
-use mathlib.Core.Option.{none}
-use Rattle.syntax.specs.Tree.{Tree, nodes}
+use Rattle.std.proofs.Common.{◌≡◌, ℕ, ◌+◌, ◌-◌, ◌<◌, ◌≤◌, List, [], ◌∷◌, length, Ok, sym, subst, inr, arith}
+use Rattle.syntax.specs.Tree.{Tree}
 use Rattle.syntax.specs.Record.{encode, record_of, two_bytes}
 use Rattle.record.specs.declared.node.Nodes.{Nodes}
 use Rattle.record.specs.Bytes.{Stands}
 use Rattle.record.specs.Nodes.{Holds}
-use Rattle.record.specs.Questions.{front, Refused, spare, Refusal}
+use Rattle.record.specs.Questions.{Refused, spare, Refusal}
 use Rattle.record.specs.Reading.{Fronted, Grown, IsTree}
 use Rattle.record.proofs.Growing.{fault_behind}
 use Rattle.record.proofs.Standing.{stands_join, stands_rest}

@@ -1,5 +1,5 @@
 -- Going over a tree that stands in the bytes. Assumes nothing.
-use Rattle.std.proofs.Common.{◌≡◌, ℕ, ◌+◌, ◌<◌, ◌≤◌, Bool, true, false, List, [], ◌∷◌, ◌++◌, length, get_or, sym, refl, ap, ◌∙◌, subst, arith, length-append}
+use Rattle.std.proofs.Common.{◌≡◌, ℕ, ◌+◌, ◌<◌, ◌≤◌, true, false, List, ◌∷◌, ◌++◌, length, get_or, sym, ap, ◌∙◌, subst, arith, length-append}
 use mathlib.Core.Option.{Option, some, none}
 use Rattle.syntax.specs.Tree.{Tree, nodes, number, truth, variable, function, application, let_in, sum, at_most, if_else}
 use Rattle.syntax.specs.Record.{encode}
@@ -7,7 +7,7 @@ use Rattle.record.specs.declared.head.Head.{Head}
 use Rattle.record.specs.declared.head.Head.TheVariants.{Number, Truth, Variable, Function, Application, LetIn, Sum, AtMost, IfElse}
 use Rattle.record.specs.Proper.{Proper}
 use Rattle.record.specs.Bytes.{Stands}
-use Rattle.record.specs.Questions.{asked, width, children, Refused, here, later, spare}
+use Rattle.record.specs.Questions.{width, children, Refused, here, later}
 use Rattle.record.specs.Reading.{opening, Fine, Opens}
 use Rattle.record.proofs.Asking.{kind, kind_first, passes, width_kind}
 use Rattle.record.proofs.Standing.{stands_inside, stands_split}

@@ -1,5 +1,5 @@
 -- What reading a record comes to. Assumes nothing.
-use Rattle.std.specs.Prelude.{◌≡◌, ℕ, ◌+◌, ◌-◌, ◌<◌, ◌≤◌, Bool, true, false, List, [], ◌∷◌, length, Ok, Err, Result, FitsSigned, slice_index}
+use Rattle.std.specs.Prelude.{◌≡◌, ℕ, ◌+◌, ◌-◌, ◌<◌, ◌≤◌, true, false, List, [], ◌∷◌, length, Ok, Err, Result, FitsSigned, slice_index}
 use Rattle.std.proofs.Math.Option.{some, none}
 use Rattle.std.specs.Int.{w32}
 use Rattle.syntax.specs.Tree.{Tree, nodes}

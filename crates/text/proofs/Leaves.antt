@@ -1,5 +1,5 @@
 -- A token that is an atom by itself is read as one. Assumes nothing.
-use Rattle.std.proofs.Common.{◌≡◌, ℕ, Bool, true, false, List, ℤ, sym, refl, ap, ◌∙◌, subst, arith}
+use Rattle.std.proofs.Common.{◌≡◌, ℕ, true, false, List, refl, ap, ◌∙◌, subst, arith}
 use mathlib.Core.Option.{Option, some, none}
 use Rattle.syntax.specs.Tree.{Tree}
 use Rattle.grammar.specs.declared.Mark.{Mark}

@@ -1,17 +1,16 @@
 -- What stays known from one call of the parser to the next. Assumes nothing.
-use Rattle.std.proofs.Common.{◌≡◌, ℕ, zero, suc, ◌+◌, ◌*◌, ◌<◌, ◌≤◌, true, false, ◌≢◌, List, [], ◌∷◌, ◌++◌, length, set, sym, refl, ap, ◌∙◌, subst, ⊎_elim, true≢false, arith, length-set, get_or-set_other, get_or-set_same}
+use Rattle.std.proofs.Common.{◌≡◌, ℕ, zero, suc, ◌+◌, ◌*◌, ◌<◌, ◌≤◌, true, false, ◌≢◌, List, ◌∷◌, length, set, sym, refl, ap, ◌∙◌, subst, ⊎_elim, true≢false, arith, length-set, get_or-set_other, get_or-set_same}
 use Rattle.std.proofs.str.Laws.{order}
-use Rattle.grammar.specs.declared.Mark.{Mark}
 use Rattle.grammar.specs.Automaton.{is_end, starts_atom}
 use Rattle.grammar.specs.Reading.{part}
-use Rattle.grammar.specs.Token.{Name, Token, mark, name, numeral, end, is}
-use Rattle.grammar.specs.Walking.{Stand, Current, Went, Through, is_name}
+use Rattle.grammar.specs.Token.{Token, mark, name, numeral, end}
+use Rattle.grammar.specs.Walking.{Went, Through}
 use Rattle.grammar.proofs.Walking.{went_current, through_current}
 use Rattle.text.specs.declared.parser.Parser.{Parser}
 use Rattle.text.specs.declared.scope.Part.{Part}
 use Rattle.text.specs.declared.scope.Scope.{Scope}
 use Rattle.text.specs.Parsing.{at, Ready}
-use Rattle.text.specs.Scopes.{nowhere, part_at, opened, open_names, AllInside, Inside, Restored}
+use Rattle.text.specs.Scopes.{nowhere, part_at, opened, open_names, Inside, Restored}
 
 -- ── scopes ──
 

@@ -1,11 +1,11 @@
 -- Each rule of the grammar as the parser goes through it: where it ends well, and each way in which
 -- it is refused. Assumes nothing.
-use Rattle.std.proofs.Common.{◌≡◌, ℕ, Bool, true, false, ◌⊎◌, List, [], ◌∷◌, ◌++◌, IsErrAnd, Ok, Err, Result, sym, refl, ap, ◌∙◌, subst, ⊎_elim}
+use Rattle.std.proofs.Common.{◌≡◌, ℕ, true, false, List, [], ◌∷◌, ◌++◌, IsErrAnd, Ok, Err, Result, sym, ap, ◌∙◌, subst, ⊎_elim}
 use mathlib.Core.Option.{Option, some, none}
 use Rattle.syntax.specs.Tree.{Tree, function, application, let_in, sum, at_most, if_else}
 use Rattle.grammar.specs.declared.Mark.TheVariants.{Fun, Let, In, If, Then, Else, Arrow, Equals, AtMost, Plus, Open, Close}
 use Rattle.grammar.specs.Automaton.{starts_atom}
-use Rattle.grammar.specs.Classes.{ReadAtom, ReadApp, ReadSum, ReadExpr, RefusedAtom, RefusedApp, RefusedSum, RefusedCmp, RefusedExpr}
+use Rattle.grammar.specs.Classes.{ReadApp, ReadSum, ReadExpr, RefusedAtom, RefusedApp, RefusedSum, RefusedCmp, RefusedExpr}
 use Rattle.grammar.specs.Grammar as G
 use Rattle.grammar.specs.Grammar.{Expr}
 use Rattle.grammar.specs.Names.{one, two, three, resolved, distance}
@@ -25,7 +25,7 @@ use Rattle.text.specs.declared.parser.Parser.{Parser}
 use Rattle.text.specs.declared.scope.Part.{Part}
 use Rattle.text.specs.Faults.{number, place}
 use Rattle.nodes.specs.Nodes.{Pushed, Grown}
-use Rattle.text.specs.Parsing.{at, Advanced, Passed, Named, Parsed, ReadsExpr, ReadsBody, ReadsComparison, ReadsSum, ReadsApplication, ReadsAtom, Single, leaf}
+use Rattle.text.specs.Parsing.{at, Advanced, Passed, Named, ReadsExpr, ReadsBody, ReadsComparison, ReadsSum, ReadsApplication, ReadsAtom, Single}
 use Rattle.nodes.proofs.Growing.{grown_leaf, grown_function, grown_application, grown_let, grown_sum, grown_at_most, grown_if}
 use Rattle.text.proofs.Leaves.{leaf_fits, leaf_on}
 use Rattle.text.proofs.Turns.{Read, ApplicationSoFar, SumSoFar}

@@ -1,6 +1,5 @@
 -- The number and the place of each refusal. Assumes nothing.
 use Rattle.std.specs.Prelude.{ℕ}
-use Rattle.lexer.specs.declared.fault.LexFault.{LexFault}
 use Rattle.lexer.specs.declared.fault.LexFault.TheVariants.{NoToken, OutOfRange}
 use Rattle.text.specs.declared.fault.CompileFault.{CompileFault}
 use Rattle.text.specs.declared.fault.CompileFault.TheVariants.{TooLong, Lex, Unexpected, Unknown, TooManyNodes, NoRoom}

@@ -1,5 +1,5 @@
 -- Which names are open. Assumes nothing.
-use Rattle.std.specs.Prelude.{◌≡◌, ℕ, zero, suc, ◌<◌, ◌≤◌, List, [], ◌∷◌, ◌++◌, length, slice_index_or}
+use Rattle.std.specs.Prelude.{◌≡◌, ℕ, zero, suc, ◌<◌, ◌≤◌, List, [], ◌∷◌, length, slice_index_or}
 use Rattle.grammar.specs.Reading.{part}
 use Rattle.grammar.specs.Token as plain
 use Rattle.text.specs.declared.scope.Part.{Part}

@@ -1,4 +1,4 @@
-use Rattle.std.proofs.Common.{◌≡◌, ℕ, ◌+◌, ◌<◌, ◌≤◌, length, get_or}
+use Rattle.std.proofs.Common.{◌≡◌, ℕ, ◌+◌, ◌<◌, get_or}
 use Rattle.flat.specs.declared.slot.Slot.TheVariants.{Spare, Element}
 use Rattle.flat.specs.Spans.{element_of}
 use Rattle.flat.proofs.flat_store.copy.Given as goal

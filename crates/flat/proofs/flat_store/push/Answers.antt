@@ -1,5 +1,5 @@
 use Rattle.std.proofs.Common.{arith}
-use Rattle.flat.proofs.Listed.{extends, span_some}
+use Rattle.flat.proofs.Listed.{extends}
 use Rattle.flat.proofs.flat_store.push.Goals as goal
 
 pub returns : goal.returns

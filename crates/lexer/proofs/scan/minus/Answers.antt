@@ -1,4 +1,4 @@
-use Rattle.std.proofs.Common.{sym, refl, ◌∙◌, arith}
+use Rattle.std.proofs.Common.{sym, refl, arith}
 use Rattle.grammar.specs.declared.Mark.TheVariants.{Arrow}
 use Rattle.grammar.specs.Token.{mark}
 use Rattle.grammar.proofs.Lexing.{longest_two}

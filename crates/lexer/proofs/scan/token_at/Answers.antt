@@ -1,4 +1,4 @@
-use Rattle.std.proofs.Common.{sym, refl, arith}
+use Rattle.std.proofs.Common.{refl, arith}
 use Rattle.std.proofs.lemmas.Bool.Decides.{nat_tests}
 use Rattle.grammar.specs.declared.Mark.TheVariants.{Open, Close, Plus, Equals, AtMost}
 use Rattle.grammar.specs.Token.{mark}

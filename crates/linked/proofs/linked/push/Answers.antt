@@ -1,5 +1,4 @@
 use Rattle.std.proofs.Common.{arith}
-use Rattle.linked.specs.Walk.{lists_of, room_of}
 use Rattle.linked.proofs.Walks.{extends}
 use Rattle.linked.proofs.linked.push.Goals as goal
 

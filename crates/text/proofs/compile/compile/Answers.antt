@@ -1,7 +1,6 @@
-use Rattle.std.proofs.Common.{◌≡◌, ◌++◌, length, Ok, sym, refl, ap, ◌∙◌, subst, arith}
+use Rattle.std.proofs.Common.{◌≡◌, ◌++◌, length, sym, refl, subst, arith}
 use mathlib.Core.Option.{some}
 use borrow.Author.Tests.{true-ltb, false-ltb}
-use Rattle.grammar.specs.Automaton.{is_end}
 use Rattle.grammar.specs.Classes.{RefusedExpr, ReadExpr}
 use Rattle.grammar.specs.Names.{resolved}
 use Rattle.grammar.specs.Token.{end}
@@ -13,8 +12,7 @@ use Rattle.text.specs.declared.fault.CompileFault.TheVariants.{Lex}
 use Rattle.book.specs.Books.{names}
 use Rattle.text.specs.Faults.{number, place}
 use Rattle.nodes.specs.Nodes.{Grown}
-use Rattle.text.specs.Parsing.{at, stand}
-use Rattle.text.specs.Scopes.{open_names}
+use Rattle.text.specs.Parsing.{at}
 use Rattle.text.proofs.Records.{exit_compile, grown_held, none_open, recorded_verdict}
 use Rattle.text.proofs.compile.compile.Goals as goal
 

@@ -1,4 +1,4 @@
-use Rattle.std.proofs.Common.{◌≡◌, ◌+◌, ◌%◌, ◌≤◌, [], ◌∷◌, ◌++◌, length, refl, ◌∙◌, inl, inr, arith}
+use Rattle.std.proofs.Common.{◌+◌, ◌%◌, ◌≤◌, [], ◌∷◌, ◌++◌, length, refl, ◌∙◌, inl, inr, arith}
 use borrow.Author.Tests.{true-leb, false-leb}
 use Rattle.syntax.specs.Record.{encode, two_bytes}
 use Rattle.text.proofs.Records.{record_bytes}

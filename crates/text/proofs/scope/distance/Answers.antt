@@ -1,5 +1,4 @@
-use Rattle.std.proofs.Common.{◌≡◌, ◌+◌, length, sym, ap, ◌∙◌, arith}
-use Rattle.grammar.specs.Names.{distance}
+use Rattle.std.proofs.Common.{◌≡◌, ◌+◌, length, ap, ◌∙◌, arith}
 use Rattle.book.specs.Books.{names}
 use Rattle.text.specs.Scopes.{open_names}
 use Rattle.book.proofs.Finding.{later, distance_front, distance_back, distance-<}

@@ -1,4 +1,4 @@
-use Rattle.std.proofs.Common.{◌≡◌, ◌/◌, ◌%◌, ◌≤◌, [], ◌∷◌, length, ap, ◌∙◌, arith}
+use Rattle.std.proofs.Common.{◌/◌, ◌%◌, ◌≤◌, [], ◌∷◌, length, ap, ◌∙◌, arith}
 use Rattle.text.specs.Writing.{written}
 use Rattle.text.proofs.Writes.{behind}
 use Rattle.text.proofs.write.put_two.Goals as goal

@@ -1,6 +1,6 @@
 use Rattle.std.proofs.Common.{◌≡◌, [], ◌∷◌, ◌++◌, length, sym, refl, ap, ◌∙◌, arith, le-ltb, lt-ltb, le-leb}
 use borrow.Author.Tests.{lt-leb}
-use Rattle.book.specs.Books.{names, spelled}
+use Rattle.book.specs.Books.{names}
 use Rattle.book.proofs.Naming.{takes_long, takes_full, takes_unnamed, takes_known, takes_new, names_more, names_length}
 use Rattle.book.proofs.name.Book.add.Goals as goal
 use Rattle.book.proofs.name.Book.add.Goals.{then-name-gt-MOST_BYTES-via-then-name-gt-MOST_BYTES, then-name-gt-MOST_BYTES-via-else-name-gt-MOST_BYTES+then-self-ge-MOST_READINGS, then-name-gt-MOST_BYTES-via-else-name-gt-MOST_BYTES+else-self-ge-MOST_READINGS+then-not-is_name}

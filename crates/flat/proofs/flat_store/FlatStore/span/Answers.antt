@@ -1,4 +1,3 @@
-use Rattle.std.proofs.Common.{◌≡◌}
 use Rattle.flat.proofs.Listed.{spanned}
 use Rattle.flat.proofs.flat_store.FlatStore.span.Goals as goal
 

@@ -1,4 +1,4 @@
-use Rattle.std.proofs.Common.{◌≡◌, ◌≤◌, length, take}
+use Rattle.std.proofs.Common.{◌≡◌, length, take}
 use Rattle.readings.proofs.readings_list.Readings.new.Given as goal
 
 abbrev pub invariant-loop-i : goal.invariant-loop-i

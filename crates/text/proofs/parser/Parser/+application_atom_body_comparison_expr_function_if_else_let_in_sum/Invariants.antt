@@ -1,4 +1,4 @@
-use Rattle.std.proofs.Common.{◌≡◌, ℕ, ◌+◌, ◌-◌, ◌*◌, List, length}
+use Rattle.std.proofs.Common.{ℕ, ◌+◌, ◌-◌, ◌*◌, List, length}
 use Rattle.text.specs.declared.parser.Parser.{Parser}
 use Rattle.book.specs.Books.{names}
 use Rattle.text.specs.Scopes.{open_names, Restored}

@@ -1,4 +1,4 @@
-use Rattle.std.proofs.Common.{◌≡◌, true, false, sym, refl, ap, ◌∙◌, w32, to_z, of_z, rules}
+use Rattle.std.proofs.Common.{◌≡◌, true, false, refl, ap, ◌∙◌, w32, to_z, of_z, rules}
 use Rattle.syntax.specs.Tree.{Tree}
 use Rattle.grammar.specs.Grammar.{boolean, literal, used}
 use Rattle.grammar.specs.Names.{variable_at}
