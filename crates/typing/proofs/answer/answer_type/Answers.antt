@@ -1,5 +1,5 @@
-use Rattle.std.proofs.Common.{◌≡◌, ◌+◌, ◌*◌, refl, inl, inr, arith}
-use Rattle.typing.proofs.Clearing.{length_cleared, cleared_again, cleared_blank, too_short, answered}
+use Rattle.std.proofs.Common.{◌+◌, ◌*◌, refl, inl, inr, arith}
+use Rattle.typing.proofs.Clearing.{cleared_again, cleared_blank, too_short, answered}
 use Rattle.typing.proofs.answer.answer_type.Goals as goal
 use Rattle.typing.proofs.answer.answer_type.Goals.{then-first-entries-via-then-first-entries, then-first-entries-via-else-first-entries+then-second-entries}
 

@@ -1,4 +1,4 @@
-use Rattle.std.proofs.Common.{◌≡◌, sym, arith}
+use Rattle.std.proofs.Common.{sym, arith}
 use Rattle.std.proofs.lemmas.Result.{err_from_is_err_and}
 use Rattle.typing.proofs.Merging.{kept_twice}
 use Rattle.typing.proofs.Walking.{root_inside, root_known, some_room, body_call, left_call, right_call, bound_call, let_known, let_call, first_call, second_call, third_call, walked_refused, walked_leaf, walked_body, walked_left_refused, walked_bound_refused, walked_two, walked_let, walked_first_refused, walked_second_refused, walked_three}

@@ -1,4 +1,4 @@
-use Rattle.std.proofs.Common.{◌≡◌, [], length, sym, refl, ap, ◌∙◌, arith}
+use Rattle.std.proofs.Common.{◌≡◌, [], length, refl, ap, ◌∙◌, arith}
 use lib.ListN.{length-replicate}
 use Rattle.typing.proofs.Ruling.{blank_sound, blank_finite, whole_force, whole_tried}
 use Rattle.typing.proofs.conditions.conditions.Goals as goal

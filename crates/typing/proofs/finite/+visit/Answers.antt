@@ -1,4 +1,4 @@
-use Rattle.std.proofs.Common.{◌≡◌, sym, refl, ap, ◌∙◌, subst, arith}
+use Rattle.std.proofs.Common.{sym, arith}
 use Rattle.typing.proofs.Merging.{sides_inside}
 use Rattle.typing.proofs.Seeing.{meets_itself, unseen_opened, opened_marked, opened_below, link_below, left_below, right_below, link_inside, below_kept, visited_open, visited_link, visited_arrow}
 use Rattle.typing.proofs.finite.+visit.Goals as goal

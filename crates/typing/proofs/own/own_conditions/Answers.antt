@@ -1,4 +1,4 @@
-use Rattle.std.proofs.Common.{◌≡◌, ◌+◌, ◌<◌, length, get_or, sym, refl, ap, ◌∙◌, subst, arith}
+use Rattle.std.proofs.Common.{◌≡◌, ◌+◌, ◌<◌, length, get_or, sym, subst, arith}
 use Rattle.typing.specs.Asked.{NodeFits}
 use Rattle.typing.proofs.Adding.{tried_int, tried_bool, tried_sum, tried_compare, tried_choice, tried_binder, tried_reading, binder_below, look_ok, look_err, node_tried, same_list}
 use Rattle.typing.proofs.own.own_conditions.Goals as goal

@@ -1,5 +1,5 @@
-use Rattle.std.proofs.Common.{◌≡◌, ◌+◌, ◌<◌, ◌≢◌, sym, refl, ap, ◌∙◌, subst, arith}
-use Rattle.typing.proofs.Merging.{link_open, link_arrow, move_up, added_at, linked_at, kept_at, kept_twice, opened, tried_for, tried_back, added_for, added_nothing, sides_inside, tried_sides, tried_first}
+use Rattle.std.proofs.Common.{◌+◌, ◌<◌, ◌≢◌, sym, refl, ap, ◌∙◌, arith}
+use Rattle.typing.proofs.Merging.{link_open, link_arrow, move_up, added_at, linked_at, kept_at, kept_twice, opened, tried_for, tried_back, added_nothing, sides_inside, tried_sides, tried_first}
 use Rattle.typing.proofs.unify.+merge_merge_arrow_unify.Goals as goal
 
 pub merge-returns-in_default : goal.merge-returns-in_default

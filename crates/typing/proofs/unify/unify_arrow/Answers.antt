@@ -1,4 +1,4 @@
-use Rattle.std.proofs.Common.{◌≡◌, sym, refl, ap, ◌∙◌, subst, arith}
+use Rattle.std.proofs.Common.{sym, refl, ◌∙◌}
 use Rattle.typing.proofs.Merging.{added_at, kept_at, kept_twice, opened, sides_inside, tried_ends, tried_start, arrow_put, no_arrow}
 use Rattle.typing.proofs.unify.unify_arrow.Goals as goal
 
