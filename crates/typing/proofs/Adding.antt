@@ -1,14 +1,14 @@
 -- Conditions added one after another, and said in other words. Assumes nothing.
-use Rattle.std.proofs.Common.{◌≡◌, ℕ, zero, suc, ◌+◌, ◌<◌, ◌≤◌, Bool, true, false, ◌⊎◌, List, [], ◌∷◌, length, get_or, replicate, Some, Ok, Err, Option as StdOption, Result, sym, refl, ap, ◌∙◌, subst, ⊎_elim, arith}
-use mathlib.Core.Option.{Option, some, none}
+use Rattle.std.proofs.Common.{◌≡◌, ℕ, zero, suc, ◌+◌, ◌<◌, ◌≤◌, Bool, true, false, List, [], ◌∷◌, length, get_or, replicate, Some, Ok, Err, Option as StdOption, Result, sym, refl, ap, ◌∙◌, subst, ⊎_elim, arith}
+use mathlib.Core.Option.{some}
 use Rattle.std.proofs.lemmas.Bool.{cases_lt}
-use Rattle.calculus.specs.Types.{Ty, int, bool, ◌⇒◌, at}
+use Rattle.calculus.specs.Types.{Ty, int, bool, at}
 use Rattle.record.specs.declared.node.Node.{Node}
 use Rattle.store.specs.declared.fault.StoreFault.{StoreFault}
 use Rattle.store.specs.Lists.{Found}
 use Rattle.store.proofs.Told.{ok_err}
 use Rattle.typing.specs.Asked.{types_in, AllBelow, NodeAsks}
-use Rattle.typing.specs.Classes.{Sound, Agrees}
+use Rattle.typing.specs.Classes.{Agrees}
 use Rattle.typing.specs.Unified.{Added, Tried}
 
 -- a condition that says the same of all types that agree

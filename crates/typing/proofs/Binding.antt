@@ -1,9 +1,9 @@
 -- One binder more in force, and one node's conditions with the check that types stay finite. Assumes nothing.
-use Rattle.std.proofs.Common.{◌≡◌, ℕ, ◌+◌, ◌*◌, ◌<◌, ◌≤◌, Bool, true, false, List, ◌∷◌, length, Some, Ok, Err, Result, sym, refl, ap, ◌∙◌, subst, ⊎_elim, arith}
+use Rattle.std.proofs.Common.{◌≡◌, ℕ, ◌*◌, ◌≤◌, Bool, true, false, List, ◌∷◌, length, Some, Ok, Err, Result, sym, refl, ap, ◌∙◌, subst, ⊎_elim, arith}
 use Rattle.std.proofs.lemmas.Bool.{cases_eq}
 use Rattle.record.specs.declared.node.Node.{Node}
 use Rattle.store.specs.declared.fault.StoreFault.{StoreFault}
-use Rattle.store.specs.Lists.{Lists, Made, Extended}
+use Rattle.store.specs.Lists.{Lists, Extended}
 use Rattle.store.proofs.Told.{some_none, ok_err}
 use Rattle.typing.specs.Asked.{types_in, NodeAsks}
 use Rattle.typing.specs.Finite.{Decided}

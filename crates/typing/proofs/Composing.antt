@@ -1,7 +1,7 @@
 -- A tree's nodes by how many children they have, and their conditions put together. Assumes nothing.
-use Rattle.std.proofs.Common.{◌≡◌, ℕ, zero, suc, ◌+◌, ◌*◌, ◌<◌, ◌≤◌, Bool, true, false, List, [], ◌∷◌, length, sym, refl, ap, ◌∙◌, subst, arith}
+use Rattle.std.proofs.Common.{◌≡◌, ℕ, ◌+◌, ◌*◌, ◌<◌, ◌≤◌, List, ◌∷◌, sym, refl, ap, ◌∙◌, subst, arith}
 use Rattle.syntax.specs.Tree.{Tree, nodes, number, truth, variable, function, application, let_in, sum, at_most, if_else}
-use Rattle.calculus.specs.Types.{Ty, int, bool, ◌⇒◌, at}
+use Rattle.calculus.specs.Types.{Ty}
 use Rattle.calculus.specs.Conditions.{Assignment, Asks, Met}
 use Rattle.calculus.proofs.Conditions.{met_not_yet, met_up_to}
 use Rattle.record.specs.declared.node.Node.{Node}
@@ -10,7 +10,7 @@ use Rattle.record.specs.Nodes.{node_at, Holds}
 use Rattle.record.specs.Proper.{Proper}
 use Rattle.typing.specs.declared.under.Under.{Under}
 use Rattle.typing.specs.declared.under.Under.TheVariants.{Nothing, Body, Two, Bound, Three}
-use Rattle.typing.specs.Asked.{placed, types_in, NodeAsks, NodeFits, TreeAdded, TreeRefused}
+use Rattle.typing.specs.Asked.{placed, types_in, NodeAsks, TreeAdded, TreeRefused}
 use Rattle.typing.specs.Classes.{Sound, Agrees}
 use Rattle.typing.specs.Finite.{Finite}
 use Rattle.typing.specs.Under.{under_of}

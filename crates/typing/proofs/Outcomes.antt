@@ -1,5 +1,5 @@
 -- What becomes of a record, from reading it and from its type answer; and that this is one thing. Assumes nothing.
-use Rattle.std.proofs.Common.{◌≡◌, ℕ, ◌⊎◌, List, Ok, Err, Result, sym, refl, ap, ◌∙◌, subst, inr}
+use Rattle.std.proofs.Common.{◌≡◌, ℕ, List, Ok, Err, sym, refl, ◌∙◌, subst, inr}
 use Rattle.syntax.specs.Tree.{Tree}
 use Rattle.syntax.specs.Record.{record_of}
 use Rattle.calculus.specs.Types.{Ty, RuleHas}

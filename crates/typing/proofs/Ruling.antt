@@ -1,12 +1,11 @@
 -- From the conditions of a tree to the types of a rule. Assumes nothing.
-use Rattle.std.proofs.Common.{◌≡◌, ℕ, suc, ◌+◌, ◌-◌, ◌*◌, ◌<◌, ◌≤◌, Bool, true, false, cond, eqb, ltb, List, [], ◌∷◌, length, get_or, replicate, Some, Ok, Err, Option, Result, sym, refl, ap, ◌∙◌, subst, arith}
+use Rattle.std.proofs.Common.{◌≡◌, ℕ, ◌+◌, ◌-◌, ◌*◌, ◌<◌, ◌≤◌, cond, eqb, ltb, List, [], length, get_or, replicate, Some, Ok, Err, Option, Result, sym, refl, ap, ◌∙◌, subst, arith}
 use Rattle.std.proofs.lemmas.Bool.{eq-eqb, ne_eqb, lt-ltb, le-ltb, cond-true, cond-false}
 use Rattle.syntax.specs.Tree.{Tree, nodes}
-use Rattle.calculus.specs.Types.{Ty, int, bool, RuleHas}
-use Rattle.calculus.specs.Conditions.{Assignment, Met, Meets, CannotMeet}
-use Rattle.calculus.specs.General.{MostGeneral, spelling}
-use Rattle.calculus.proofs.Conditions.{Agree, met_agree, met_up_to, typed_by_conditions, general_by_conditions}
-use Rattle.record.specs.declared.node.Node.{Node}
+use Rattle.calculus.specs.Types.{Ty, int, bool}
+use Rattle.calculus.specs.Conditions.{Assignment, Meets, CannotMeet}
+use Rattle.calculus.specs.General.{MostGeneral}
+use Rattle.calculus.proofs.Conditions.{Agree, met_agree, typed_by_conditions, general_by_conditions}
 use Rattle.record.specs.declared.node.Received.{Received}
 use Rattle.record.specs.Proper.{Proper}
 use Rattle.record.specs.Reading.{IsTree}
@@ -16,8 +15,7 @@ use Rattle.typing.specs.declared.shape.Shape.TheVariants.{Open}
 use Rattle.typing.specs.Asked.{placed, TreeTried}
 use Rattle.typing.specs.Classes.{InOrder, Sound, Says, Agrees}
 use Rattle.typing.specs.Finite.{Finite, Falls}
-use Rattle.typing.specs.InForce.{InForce, RoomFor, Walked}
-use Rattle.typing.specs.Judging.{FirstUnmet, TypeAnswer}
+use Rattle.typing.specs.InForce.{InForce, Walked}
 use Rattle.typing.specs.Ruled.{Blank, Solved, RuleTried}
 use Rattle.typing.specs.Shapes.{shape_at, shape_of}
 use Rattle.typing.proofs.Solving.{general, general_agrees, general_comes}

@@ -1,5 +1,5 @@
 -- A tree's conditions from those of its root and its children, call by call. Assumes nothing.
-use Rattle.std.proofs.Common.{◌≡◌, ℕ, suc, ◌+◌, ◌*◌, ◌<◌, ◌≤◌, Bool, true, false, List, ◌∷◌, length, Some, Ok, Err, Option, Result, sym, refl, ap, ◌∙◌, subst, arith}
+use Rattle.std.proofs.Common.{◌≡◌, ℕ, ◌+◌, ◌*◌, ◌<◌, ◌≤◌, Bool, true, false, List, ◌∷◌, length, Some, Ok, Err, Option, Result, sym, subst, arith}
 use Rattle.syntax.specs.Tree.{Tree, nodes}
 use Rattle.record.specs.declared.node.Node.{Node}
 use Rattle.record.specs.Nodes.{node_at}
@@ -11,7 +11,7 @@ use Rattle.typing.specs.Classes.{Sound}
 use Rattle.typing.specs.Finite.{Finite}
 use Rattle.typing.specs.InForce.{InForce, NodeTried, Spent, SpentOn, RoomFor, Walked}
 use Rattle.typing.specs.Under.{under_of}
-use Rattle.typing.proofs.Composing.{BodyOf, TwoOf, BoundOf, ThreeOf, leaf_inv, body_inv, two_inv, bound_inv, three_inv, refused_here, added_leaf, added_body, refused_body, added_two, refused_first, refused_second, added_three, refused_left, refused_middle, refused_right}
+use Rattle.typing.proofs.Composing.{TwoOf, BoundOf, ThreeOf, leaf_inv, body_inv, two_inv, bound_inv, three_inv, refused_here, added_leaf, added_body, refused_body, added_two, refused_first, refused_second, added_three, refused_left, refused_middle, refused_right}
 use Rattle.typing.proofs.Descending.{root_fits, body_in_force, left_in_force, right_in_force, bound_in_force, let_in_force, first_in_force, second_in_force, third_in_force}
 
 -- ── room ──

@@ -1,6 +1,6 @@
 -- What the nodes of a table ask of the types at places. With n nodes, node i's type stands at place i, a function's
 -- parameter type at place n + i; int is at 2n and bool behind it. Assumes nothing.
-use Rattle.std.specs.Prelude.{◌≡◌, ℕ, ◌+◌, ◌*◌, ◌<◌, ◌≤◌, Bool, List, [], ◌∷◌, length, replicate, Ok, Err, Result}
+use Rattle.std.specs.Prelude.{◌≡◌, ℕ, ◌+◌, ◌*◌, ◌<◌, ◌≤◌, List, [], ◌∷◌, replicate, Ok, Err, Result}
 use Rattle.std.proofs.Math.Option.{some}
 use Rattle.syntax.specs.Tree.{Tree, nodes}
 use Rattle.calculus.specs.Types.{Ty, int, bool, ◌⇒◌, at}

@@ -1,5 +1,4 @@
 -- The children of a node. Assumes nothing.
-use Rattle.std.specs.Prelude.{ℕ, Bool}
 use Rattle.record.specs.declared.node.Node.{Node}
 use Rattle.record.specs.declared.node.Node.TheVariants.{Number, Truth, Variable, Function, Application, LetIn, Sum, AtMost, IfElse}
 use Rattle.typing.specs.declared.under.Under.{Under}

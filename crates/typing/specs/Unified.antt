@@ -1,6 +1,6 @@
 -- What making types equal comes to. Assumes nothing.
 use Rattle.std.specs.Prelude.{◌≡◌, ℕ, ◌+◌, ◌<◌, ◌≤◌, Bool, true, false, List, slice_index}
-use Rattle.calculus.specs.Types.{Ty, ◌⇒◌}
+use Rattle.calculus.specs.Types.{Ty}
 use Rattle.typing.specs.declared.shape.Shape.{Shape}
 use Rattle.typing.specs.declared.shape.Shape.TheVariants.{Open, Link, Arrow}
 use Rattle.typing.specs.Shapes.{shape_at}

@@ -1,5 +1,5 @@
-use Rattle.std.proofs.Common.{◌≡◌, ◌+◌, ◌*◌, refl, inl, inr, arith}
-use Rattle.typing.proofs.Clearing.{length_cleared, cleared_again, cleared_blank, too_short, answered}
+use Rattle.std.proofs.Common.{◌+◌, ◌*◌, refl, inl, inr, arith}
+use Rattle.typing.proofs.Clearing.{cleared_again, cleared_blank, too_short, answered}
 use Rattle.typing.proofs.answer.answer_type.Goals as goal
 use Rattle.typing.proofs.answer.answer_type.Goals.{then-first-entries-via-then-first-entries, then-first-entries-via-else-first-entries+then-second-entries}
 
@@ -16,8 +16,8 @@ returns-then-first-entries c =
       refl,
     )
 
-pub find-type-answer-requires : goal.find-type-answer-requires
-find-type-answer-requires c =
+pub find_type-answer-requires : goal.find_type-answer-requires
+find_type-answer-requires c =
     let n = c.args.received.now.nodes.count in
     record {
       tree = c.requires.tree;
@@ -28,7 +28,7 @@ find-type-answer-requires c =
 pub returns : goal.returns
 returns c =
     let n = c.args.received.now.nodes.count in
-    λ t tree. answered _ n t tree.counted _ _ _ _ _ _ c.find-type-answer.result c.if-first-entries.false c.if-second-entries.false
-    (cleared_again (3 * n + 2) (2 * n + 2) _ _ _ _ c.if-first-entries.false (omega arith) c.clear.ensures c.find-type-answer.auto.first c.find-type-answer.ensures.kept.0 c.clear-3.ensures)
-    (cleared_again (3 * n + 2) (2 * n + 2) _ _ _ _ c.if-second-entries.false (omega arith) c.clear-2.ensures c.find-type-answer.auto.second c.find-type-answer.ensures.kept.1 c.clear-4.ensures)
-    (c.find-type-answer.ensures.found t tree)
+    λ t tree. answered _ n t tree.counted _ _ _ _ _ _ c.find_type-answer.result c.if-first-entries.false c.if-second-entries.false
+    (cleared_again (3 * n + 2) (2 * n + 2) _ _ _ _ c.if-first-entries.false (omega arith) c.clear.ensures c.find_type-answer.auto.first c.find_type-answer.ensures.kept.0 c.clear-3.ensures)
+    (cleared_again (3 * n + 2) (2 * n + 2) _ _ _ _ c.if-second-entries.false (omega arith) c.clear-2.ensures c.find_type-answer.auto.second c.find_type-answer.ensures.kept.1 c.clear-4.ensures)
+    (c.find_type-answer.ensures.found t tree)

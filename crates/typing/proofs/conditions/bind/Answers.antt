@@ -1,4 +1,4 @@
-use Rattle.std.proofs.Common.{◌≡◌, ap, ◌∙◌}
+use Rattle.std.proofs.Common.{ap, ◌∙◌}
 use Rattle.typing.proofs.Binding.{bound_listed, bound_spent, never_short}
 use Rattle.typing.proofs.conditions.bind.Goals as goal
 

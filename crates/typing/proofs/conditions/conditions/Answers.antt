@@ -1,10 +1,10 @@
-use Rattle.std.proofs.Common.{◌≡◌, [], length, sym, refl, ap, ◌∙◌, arith}
+use Rattle.std.proofs.Common.{◌≡◌, [], length, refl, ap, ◌∙◌, arith}
 use lib.ListN.{length-replicate}
 use Rattle.typing.proofs.Ruling.{blank_sound, blank_finite, whole_force, whole_tried}
 use Rattle.typing.proofs.conditions.conditions.Goals as goal
 
-pub tree-conditions-requires : goal.tree-conditions-requires
-tree-conditions-requires c =
+pub tree_conditions-requires : goal.tree_conditions-requires
+tree_conditions-requires c =
     let tree = c.requires.tree.1 in
     let counted = tree.counted in
     let few = tree.sendable.few in
@@ -20,6 +20,6 @@ tree-conditions-requires c =
 pub returns : goal.returns
 returns c =
     record {
-      tried = λ t tree. whole_tried _ t _ _ _ _ _ _ _ _ c.tree-conditions.result tree c.new-store.ensures.cleared.root c.requires.blank.0 c.requires.blank.1 c.tree-conditions.ensures.walked;
-      kept = c.tree-conditions.ensures.kept;
+      tried = λ t tree. whole_tried _ t _ _ _ _ _ _ _ _ c.tree_conditions.result tree c.new-store.ensures.cleared.root c.requires.blank.0 c.requires.blank.1 c.tree_conditions.ensures.walked;
+      kept = c.tree_conditions.ensures.kept;
     }

@@ -1,4 +1,3 @@
-use Rattle.std.proofs.Common.{sym}
 use Rattle.typing.proofs.Merging.{next_link}
 use Rattle.typing.proofs.find.find.Goals as goal
 

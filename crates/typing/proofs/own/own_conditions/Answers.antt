@@ -1,4 +1,4 @@
-use Rattle.std.proofs.Common.{◌≡◌, ◌+◌, ◌<◌, length, get_or, sym, refl, ap, ◌∙◌, subst, arith}
+use Rattle.std.proofs.Common.{◌≡◌, ◌+◌, ◌<◌, length, get_or, sym, subst, arith}
 use Rattle.typing.specs.Asked.{NodeFits}
 use Rattle.typing.proofs.Adding.{tried_int, tried_bool, tried_sum, tried_compare, tried_choice, tried_binder, tried_reading, binder_below, look_ok, look_err, node_tried, same_list}
 use Rattle.typing.proofs.own.own_conditions.Goals as goal
@@ -37,19 +37,19 @@ returns-in-Err g c =
     }
 
 pub returns-in-Function : goal.returns-in-Function
-returns-in-Function g c = record { tried = λ ps e. node_tried _ _ _ _ _ _ _ ps _ _ _ c.unify-arrow.result c.in-Function.is c.unify-arrow.ensures.tried; kept = c.unify-arrow.ensures.kept }
+returns-in-Function g c = record { tried = λ ps e. node_tried _ _ _ _ _ _ _ ps _ _ _ c.unify_arrow.result c.in-Function.is c.unify_arrow.ensures.tried; kept = c.unify_arrow.ensures.kept }
 
 pub returns-in-Application : goal.returns-in-Application
-returns-in-Application g c = record { tried = λ ps e. node_tried _ _ _ _ _ _ _ ps _ _ _ c.unify-arrow-in-Application.result c.in-Application.is c.unify-arrow-in-Application.ensures.tried; kept = c.unify-arrow-in-Application.ensures.kept }
+returns-in-Application g c = record { tried = λ ps e. node_tried _ _ _ _ _ _ _ ps _ _ _ c.unify_arrow-in-Application.result c.in-Application.is c.unify_arrow-in-Application.ensures.tried; kept = c.unify_arrow-in-Application.ensures.kept }
 
 pub returns-in-LetIn : goal.returns-in-LetIn
 returns-in-LetIn g c = record { tried = λ ps e. node_tried _ _ _ _ _ _ _ ps _ _ _ c.unify-in-LetIn.result c.in-LetIn.is c.unify-in-LetIn.ensures.tried; kept = c.unify-in-LetIn.ensures.kept }
 
 pub returns-in-Sum : goal.returns-in-Sum
-returns-in-Sum g c = record { tried = λ ps e. node_tried _ _ _ _ _ _ _ ps _ _ _ c.unify-three.result c.in-Sum.is (tried_sum _ _ _ _ _ _ _ _ c.unify-three.result c.unify-three.ensures.tried); kept = c.unify-three.ensures.kept }
+returns-in-Sum g c = record { tried = λ ps e. node_tried _ _ _ _ _ _ _ ps _ _ _ c.unify_three.result c.in-Sum.is (tried_sum _ _ _ _ _ _ _ _ c.unify_three.result c.unify_three.ensures.tried); kept = c.unify_three.ensures.kept }
 
 pub returns-in-AtMost : goal.returns-in-AtMost
-returns-in-AtMost g c = record { tried = λ ps e. node_tried _ _ _ _ _ _ _ ps _ _ _ c.unify-three-in-AtMost.result c.in-AtMost.is (tried_compare _ _ _ _ _ _ _ _ c.unify-three-in-AtMost.result c.unify-three-in-AtMost.ensures.tried); kept = c.unify-three-in-AtMost.ensures.kept }
+returns-in-AtMost g c = record { tried = λ ps e. node_tried _ _ _ _ _ _ _ ps _ _ _ c.unify_three-in-AtMost.result c.in-AtMost.is (tried_compare _ _ _ _ _ _ _ _ c.unify_three-in-AtMost.result c.unify_three-in-AtMost.ensures.tried); kept = c.unify_three-in-AtMost.ensures.kept }
 
 pub returns-in-IfElse : goal.returns-in-IfElse
-returns-in-IfElse g c = record { tried = λ ps e. node_tried _ _ _ _ _ _ _ ps _ _ _ c.unify-three-in-IfElse.result c.in-IfElse.is (tried_choice _ _ _ _ _ _ _ _ _ c.unify-three-in-IfElse.result c.unify-three-in-IfElse.ensures.tried); kept = c.unify-three-in-IfElse.ensures.kept }
+returns-in-IfElse g c = record { tried = λ ps e. node_tried _ _ _ _ _ _ _ ps _ _ _ c.unify_three-in-IfElse.result c.in-IfElse.is (tried_choice _ _ _ _ _ _ _ _ _ c.unify_three-in-IfElse.result c.unify_three-in-IfElse.ensures.tried); kept = c.unify_three-in-IfElse.ensures.kept }

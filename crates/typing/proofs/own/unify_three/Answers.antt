@@ -1,4 +1,3 @@
-use Rattle.std.proofs.Common.{◌≡◌}
 use Rattle.typing.proofs.Adding.{tried_three}
 use Rattle.typing.proofs.Merging.{kept_twice}
 use Rattle.typing.proofs.own.unify_three.Goals as goal

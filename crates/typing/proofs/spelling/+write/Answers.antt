@@ -28,8 +28,8 @@ write-requires t c =
     let kept = c.write-between.auto.types in
     (omega arith, (c.requires.sound, (c.requires.few, (sides.1, (θ, c.requires.fits.1, omega arith)))))
 
-pub bounds-types-at-in-default : goal.bounds-types-at-in-default
-bounds-types-at-in-default t c = fits_here _ _ _ c.requires.fits.0 c.requires.fits.1 _ _ c.find-place.ensures _ _ c.requires.fits.2
+pub bounds-types-at-in_default : goal.bounds-types-at-in_default
+bounds-types-at-in_default t c = fits_here _ _ _ c.requires.fits.0 c.requires.fits.1 _ _ c.find-place.ensures _ _ c.requires.fits.2
 
 pub returns-in-Arrow : goal.returns-in-Arrow
 returns-in-Arrow t c =
@@ -42,10 +42,10 @@ returns-in-Arrow t c =
           spelled_arrow _ _ _ θ h _ _ c.find-place.ensures _ _ _ _ _ _ _ seen _ _ here is (c.write-between.ensures.behind θ h) left.0 (c.write.ensures.spelled θ _ h left.1);
     }
 
-pub returns-in-default : goal.returns-in-default
-returns-in-default t c =
+pub returns-in_default : goal.returns-in_default
+returns-in_default t c =
     let here = fits_here _ _ _ c.requires.fits.0 c.requires.fits.1 _ _ c.find-place.ensures _ _ c.requires.fits.2 in
     record {
-      behind = λ θ h. behind_open _ _ _ θ h _ _ c.find-place.ensures _ (λ l r e. c.in-default.not-Arrow l r (c.shape-at.ensures ∙ e));
-      spelled = λ θ seen h i. spelled_open _ _ _ θ h _ _ c.find-place.ensures _ _ _ seen _ _ here (λ l r e. c.in-default.not-Arrow l r (c.shape-at.ensures ∙ e)) (c.entry.ensures seen i);
+      behind = λ θ h. behind_open _ _ _ θ h _ _ c.find-place.ensures _ (λ l r e. c.in_default.not-Arrow l r (c.shape_at.ensures ∙ e));
+      spelled = λ θ seen h i. spelled_open _ _ _ θ h _ _ c.find-place.ensures _ _ _ seen _ _ here (λ l r e. c.in_default.not-Arrow l r (c.shape_at.ensures ∙ e)) (c.entry.ensures seen i);
     }

@@ -1,25 +1,25 @@
-use Rattle.std.proofs.Common.{◌≡◌, ◌+◌, ◌<◌, ◌≢◌, sym, refl, ap, ◌∙◌, subst, arith}
-use Rattle.typing.proofs.Merging.{link_open, link_arrow, move_up, added_at, linked_at, kept_at, kept_twice, opened, tried_for, tried_back, added_for, added_nothing, sides_inside, tried_sides, tried_first}
+use Rattle.std.proofs.Common.{◌+◌, ◌<◌, ◌≢◌, sym, refl, ap, ◌∙◌, arith}
+use Rattle.typing.proofs.Merging.{link_open, link_arrow, move_up, added_at, linked_at, kept_at, kept_twice, opened, tried_for, tried_back, added_nothing, sides_inside, tried_sides, tried_first}
 use Rattle.typing.proofs.unify.+merge_merge_arrow_unify.Goals as goal
 
-pub merge-returns-in-default : goal.merge-returns-in-default
-merge-returns-in-default t c =
+pub merge-returns-in_default : goal.merge-returns-in_default
+merge-returns-in_default t c =
     let low_inside : c.args.low < c.args.free + 2 = omega arith in
-    let unset = opened _ c.requires.unlinked.0 (λ l r e. c.in-default.not-Arrow l r (c.shape-at.ensures ∙ e)) in
+    let unset = opened _ c.requires.unlinked.0 (λ l r e. c.in_default.not-Arrow l r (c.shape_at.ensures ∙ e)) in
     record {
       tried = added_at _ _ _ _ _ _ _ _ c.link.ensures.first c.link.ensures.second (link_open _ _ _ _ _ c.requires.sound c.if-low-free.false c.requires.apart.0 c.requires.apart.1 unset);
       kept = (kept_at _ _ _ _ _ low_inside c.link.ensures.first, kept_at _ _ _ _ _ low_inside c.link.ensures.second);
     }
 
-pub merge-arrow-unify-requires : goal.merge-arrow-unify-requires
-merge-arrow-unify-requires t c =
+pub merge_arrow-unify-requires : goal.merge_arrow-unify-requires
+merge_arrow-unify-requires t c =
     let link = linked_at _ _ _ _ _ _ _ _ _ _ _ c.link.ensures.first c.link.ensures.second (link_arrow _ _ _ _ _ _ _ c.requires.sound c.requires.apart.0 c.requires.apart.1 c.requires.arrow) in
     let fewer = link.fewer in
     let sides = sides_inside _ _ _ _ _ _ c.requires.sound c.requires.apart.1 (sym c.in-Arrow.ensures) in
     (omega arith, (link.sound, (link.in_order.1, sides.0)))
 
-pub merge-arrow-unify-requires-then-unify : goal.merge-arrow-unify-requires-then-unify
-merge-arrow-unify-requires-then-unify t c =
+pub merge_arrow-unify-requires-then-unify : goal.merge_arrow-unify-requires-then-unify
+merge_arrow-unify-requires-then-unify t c =
     let link = linked_at _ _ _ _ _ _ _ _ _ _ _ c.link.ensures.first c.link.ensures.second (link_arrow _ _ _ _ _ _ _ c.requires.sound c.requires.apart.0 c.requires.apart.1 c.requires.arrow) in
     let fewer = link.fewer in
     let sides = sides_inside _ _ _ _ _ _ c.requires.sound c.requires.apart.1 (sym c.in-Arrow.ensures) in
@@ -27,8 +27,8 @@ merge-arrow-unify-requires-then-unify t c =
     let less = left.fewer in
     (omega arith, (left.sound, (link.in_order.2, sides.1)))
 
-pub merge-arrow-returns-then-unify : goal.merge-arrow-returns-then-unify
-merge-arrow-returns-then-unify t c =
+pub merge_arrow-returns-then-unify : goal.merge_arrow-returns-then-unify
+merge_arrow-returns-then-unify t c =
     let low_inside : c.args.low < c.args.free + 2 = omega (arith, c.requires.apart.0, c.requires.apart.1) in
     let apart : c.args.high ≢ c.args.low = λ e. omega (arith, c.requires.apart.0) in
     let link = linked_at _ _ _ _ _ _ _ _ _ _ _ c.link.ensures.first c.link.ensures.second (link_arrow _ _ _ _ _ _ _ c.requires.sound c.requires.apart.0 c.requires.apart.1 c.requires.arrow) in
@@ -40,8 +40,8 @@ merge-arrow-returns-then-unify t c =
       );
     }
 
-pub merge-arrow-returns-else-unify : goal.merge-arrow-returns-else-unify
-merge-arrow-returns-else-unify t c =
+pub merge_arrow-returns-else-unify : goal.merge_arrow-returns-else-unify
+merge_arrow-returns-else-unify t c =
     let low_inside : c.args.low < c.args.free + 2 = omega (arith, c.requires.apart.0, c.requires.apart.1) in
     let apart : c.args.high ≢ c.args.low = λ e. omega (arith, c.requires.apart.0) in
     let link = linked_at _ _ _ _ _ _ _ _ _ _ _ c.link.ensures.first c.link.ensures.second (link_arrow _ _ _ _ _ _ _ c.requires.sound c.requires.apart.0 c.requires.apart.1 c.requires.arrow) in
@@ -53,16 +53,16 @@ merge-arrow-returns-else-unify t c =
       );
     }
 
-pub merge-arrow-returns-else-high-free : goal.merge-arrow-returns-else-high-free
-merge-arrow-returns-else-high-free t c =
+pub merge_arrow-returns-else-high-free : goal.merge_arrow-returns-else-high-free
+merge_arrow-returns-else-high-free t c =
     let low_inside : c.args.low < c.args.free + 2 = omega (arith, c.requires.apart.0, c.requires.apart.1) in
-    let unset = opened _ c.requires.unlinked (λ l r e. c.in-default.not-Arrow l r (c.shape-at.ensures ∙ e)) in
+    let unset = opened _ c.requires.unlinked (λ l r e. c.in_default.not-Arrow l r (c.shape_at.ensures ∙ e)) in
     let moved = move_up _ _ _ _ _ _ _ c.requires.sound c.requires.apart.0 c.if-high-free.false c.requires.arrow unset in
     record {
-      tried = added_at _ _ _ _ _ _ _ _ (c.link-in-default.ensures.first ∙ ap (λ l. lib.ListN.set l c.args.low (c.args.high + 1)) c.put-arrow.ensures.first) (c.link-in-default.ensures.second ∙ ap (λ l. lib.ListN.set l c.args.low 0) c.put-arrow.ensures.second) moved;
+      tried = added_at _ _ _ _ _ _ _ _ (c.link-in_default.ensures.first ∙ ap (λ l. lib.ListN.set l c.args.low (c.args.high + 1)) c.put_arrow.ensures.first) (c.link-in_default.ensures.second ∙ ap (λ l. lib.ListN.set l c.args.low 0) c.put_arrow.ensures.second) moved;
       kept = (
-        kept_twice _ _ _ _ (kept_at _ _ _ _ _ c.requires.apart.1 c.put-arrow.ensures.first) (kept_at _ _ _ _ _ low_inside c.link-in-default.ensures.first),
-        kept_twice _ _ _ _ (kept_at _ _ _ _ _ c.requires.apart.1 c.put-arrow.ensures.second) (kept_at _ _ _ _ _ low_inside c.link-in-default.ensures.second),
+        kept_twice _ _ _ _ (kept_at _ _ _ _ _ c.requires.apart.1 c.put_arrow.ensures.first) (kept_at _ _ _ _ _ low_inside c.link-in_default.ensures.first),
+        kept_twice _ _ _ _ (kept_at _ _ _ _ _ c.requires.apart.1 c.put_arrow.ensures.second) (kept_at _ _ _ _ _ low_inside c.link-in_default.ensures.second),
       );
     }
 

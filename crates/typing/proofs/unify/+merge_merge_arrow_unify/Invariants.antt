@@ -9,5 +9,5 @@ decreases-unify l = 3 * classes (l.free + 2) l.first.now l.second.now + 2
 abbrev pub decreases-merge : goal.decreases-merge
 decreases-merge l = 3 * classes (l.free + 2) l.first.now l.second.now + 1
 
-abbrev pub decreases-merge-arrow : goal.decreases-merge-arrow
-decreases-merge-arrow l = 3 * classes (l.free + 2) l.first.now l.second.now
+abbrev pub decreases-merge_arrow : goal.decreases-merge_arrow
+decreases-merge_arrow l = 3 * classes (l.free + 2) l.first.now l.second.now

@@ -1,4 +1,4 @@
-use Rattle.std.proofs.Common.{◌≡◌, sym, refl, ap, ◌∙◌, subst, arith}
+use Rattle.std.proofs.Common.{sym, refl, ◌∙◌}
 use Rattle.typing.proofs.Merging.{added_at, kept_at, kept_twice, opened, sides_inside, tried_ends, tried_start, arrow_put, no_arrow}
 use Rattle.typing.proofs.unify.unify_arrow.Goals as goal
 
@@ -32,8 +32,8 @@ returns-then-at-free c =
 
 pub returns-else-at-free : goal.returns-else-at-free
 returns-else-at-free c =
-    let unset = opened _ c.find-at.ensures.unlinked (λ l r e. c.in-default.not-Arrow l r (c.shape-at.ensures ∙ e)) in
+    let unset = opened _ c.find-at.ensures.unlinked (λ l r e. c.in_default.not-Arrow l r (c.shape_at.ensures ∙ e)) in
     record {
-      tried = added_at _ _ _ _ _ _ _ _ c.put-arrow.ensures.first c.put-arrow.ensures.second (arrow_put _ _ _ _ _ _ _ c.requires.sound c.find-at.ensures c.if-at-free.false c.requires.inside.1.0 c.requires.inside.1.1 unset);
-      kept = (kept_at _ _ _ _ _ c.find-at.ensures.inside c.put-arrow.ensures.first, kept_at _ _ _ _ _ c.find-at.ensures.inside c.put-arrow.ensures.second);
+      tried = added_at _ _ _ _ _ _ _ _ c.put_arrow.ensures.first c.put_arrow.ensures.second (arrow_put _ _ _ _ _ _ _ c.requires.sound c.find-at.ensures c.if-at-free.false c.requires.inside.1.0 c.requires.inside.1.1 unset);
+      kept = (kept_at _ _ _ _ _ c.find-at.ensures.inside c.put_arrow.ensures.first, kept_at _ _ _ _ _ c.find-at.ensures.inside c.put_arrow.ensures.second);
     }

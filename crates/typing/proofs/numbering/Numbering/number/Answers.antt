@@ -10,12 +10,12 @@ returns-then-given-gt0 c =
     let less = known_small _ _ _ before.few before.earlier inside some in
     record { small = omega arith; numbered = λ seen h. number_known _ _ _ before.few before.earlier inside seen c.requires some h }
 
-pub invariant-of-self : goal.invariant-of-self
-invariant-of-self c =
+pub invariant_of-self : goal.invariant_of-self
+invariant_of-self c =
     let before = c.args.self.now in
     let inside : c.args.unknown < length before.given = omega arith in
     let none : get_or before.given c.args.unknown 0 ≡ 0 = omega (arith, c.if-given-gt0.false) in
-    (length-set before.given c.args.unknown _ ∙ before.whole, (few_more _ _ _ before.few before.earlier inside none _ refl, (earlier_more _ _ _ before.few before.earlier inside none _ refl, tt)))
+    record { whole = length-set before.given c.args.unknown _ ∙ before.whole; few = few_more _ _ _ before.few before.earlier inside none _ refl; earlier = earlier_more _ _ _ before.few before.earlier inside none _ refl }
 
 pub returns : goal.returns
 returns c =

@@ -3,5 +3,5 @@ use Rattle.syntax.specs.Tree.{number}
 use Rattle.calculus.specs.Types.{int}
 use Rattle.typing.proofs.rule.Rule.new.Goals as goal
 
-pub invariant-of-result : goal.invariant-of-result
-invariant-of-result c = (∣ (number (pos 0), int, c.zero.ensures.tree, refl) ∣₁, tt)
+pub invariant_of-result : goal.invariant_of-result
+invariant_of-result c = record { typed = ∣ (number (pos 0), int, c.zero.ensures.tree, refl) ∣₁ }
