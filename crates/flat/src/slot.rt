@@ -1,6 +1,6 @@
 //! The slots that whoever owns the memory lends.
 ghost use Rattle.std.specs.Prelude.{◌≡◌};
-ghost use Rattle.flat.specs.Spans.{element_of, ending as Ending-of};
+ghost use Rattle.flat.specs.Spans.{element_of, ending as ending_of};
 
 use store::blank::Blank;
 
@@ -28,7 +28,7 @@ impl<T: Blank + Copy> Slot<T> {
 
     /// The length of the list of a handle that names this slot, if a list ends here.
     pub fn ending(self, handle: u32) -> Option<u32>
-        ensures { result ≡ Ending-of handle self }
+        ensures { result ≡ ending_of handle self }
     {
         match self {
             Slot::Ends { length } => { if length < handle { Some(length) } else { None } }

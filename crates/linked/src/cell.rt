@@ -1,6 +1,6 @@
 //! The cells that whoever owns the memory lends.
 ghost use Rattle.std.specs.Prelude.{◌≡◌};
-ghost use Rattle.linked.specs.Walk.{blank_cell, lower as lower-handle};
+ghost use Rattle.linked.specs.Walk.{blank_cell, lower as lower_handle};
 
 use store::blank::Blank;
 
@@ -28,7 +28,7 @@ impl<T> Cell<T> {
     ///
     /// A lower handle always stands in the cell; the test is what makes every walk end.
     pub fn lower(&self, handle: u32) -> u32
-        ensures { result ≡ lower-handle handle self.now }
+        ensures { result ≡ lower_handle handle self.now }
     {
         if self.below < handle { self.below } else { 0 }
     }
