@@ -10,18 +10,18 @@ while [ -L "$here" ]; do
     esac
 done
 root=$(cd "$(dirname "$here")" && pwd -P) || exit 1
-program=$root/target/bin/fun
+program=$root/crates/fun/out/fun
 
 # the first source that is newer than the program; nothing where all are older
 newer_source() {
-    find "$root/crates.txt" "$root/crates" -type f \( -name '*.rt' -o -name '*.antt' -o -name crates.txt \) \
-        -newer "$program" -print 2>/dev/null | head -n 1
+    find "$root/crates.txt" "$root/crates" -name out -prune -o \
+        -type f \( -name '*.rt' -o -name '*.antt' -o -name crates.txt \) -newer "$program" -print 2>/dev/null | head -n 1
 }
 
 build() {
     log=$(mktemp) || exit 1
     [ -t 2 ] && echo "fun: proving and building the program; this takes some minutes" >&2
-    if ! (cd "$root" && rt check fun) >"$log" 2>&1 || [ ! -x "$program" ]; then
+    if ! (cd "$root/crates/fun" && rt run -- help) >"$log" 2>&1 || [ ! -x "$program" ]; then
         tail -n 20 "$log" >&2
         echo "error: the program could not be built; the whole report is in $log" >&2
         exit 1
