@@ -1,7 +1,6 @@
 //! The command `compile`, from the file to the record.
 use crate::arguments::Request;
 use crate::failure::Failure;
-use crate::figures::counted;
 use crate::source;
 use crate::source::RULE;
 use book::name::Book;
@@ -60,14 +59,14 @@ fn written(
     out: Option<&str>,
     record: &[u8],
 ) -> Result<String, Failure> {
-    let bytes = counted(heap, record.len(), "byte")?;
-    let nodes = counted(heap, node_places(heap, record)?.len(), "node")?;
+    let bytes = record.len();
+    let nodes = node_places(heap, record)?.len();
     let Some(file) = out else {
         let shown = hexadecimal::show(heap, record)?;
-        return Ok(format!(in heap; "{shown}\n{bytes}, {nodes}\n")?);
+        return Ok(format!(in heap; "{shown}\n{bytes} bytes, {nodes} nodes\n")?);
     };
     match fs::write(rt, file, record) {
-        Ok(()) => Ok(format!(in heap; "{file}: {bytes}, {nodes}\n")?),
+        Ok(()) => Ok(format!(in heap; "{file}: {bytes} bytes, {nodes} nodes\n")?),
         Err(error) => Err(Failure::Told(format!(in heap;
             "error: cannot write {file}: {error}\n"
         )?)),

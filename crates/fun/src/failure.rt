@@ -1,9 +1,6 @@
 //! Why the program ends without an answer.
 use std::alloc::{AllocError, AllocFailed};
-
-/// The program's status is 1, and why has been told.
-#[derive(Clone, Copy, Debug)]
-pub struct Failed;
+use std::process::ExitCode;
 
 #[derive(Drop)]
 pub enum Failure {
@@ -26,12 +23,13 @@ impl<T: Drop> From<AllocFailed<T>> for Failure {
 }
 
 impl Failure {
-    /// Prints the message on standard error. Where even that fails there is nobody left to tell.
-    pub(crate) fn tell(&self, rt: &HostRuntime) -> Result<(), Failed> {
+    /// Prints the message on standard error, and answers the status 1. Where even printing fails there is nobody left
+    /// to tell.
+    pub(crate) fn tell(&self, rt: &HostRuntime) -> ExitCode {
         let _ = match self {
             Failure::NoMemory => eprintln!(rt; "error: there is not enough memory"),
             Failure::Told(message) => eprint!(rt; "{message}"),
         };
-        Err(Failed)
+        ExitCode::FAILURE
     }
 }

@@ -17,15 +17,15 @@ mod record_file;
 mod source;
 mod usage;
 
-use failure::Failed;
+use std::process::ExitCode;
 
-fn main(rt: HostRuntime) -> Result<(), Failed> {
+fn main(rt: HostRuntime) -> ExitCode {
     match command::run(&rt) {
         Ok(answer) => match rt.print(answer) {
-            Ok(()) => Ok(()),
+            Ok(()) => ExitCode::SUCCESS,
             Err(error) => {
                 let _ = eprintln!(rt; "error: cannot print the answer: {error}");
-                Err(Failed)
+                ExitCode::FAILURE
             }
         },
         Err(failure) => failure.tell(&rt),
