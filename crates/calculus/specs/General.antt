@@ -1,5 +1,5 @@
 -- The most general type of a rule, and its spelling. Assumes nothing.
-use Rattle.std.specs.Prelude.{cond, List, [], ◌∷◌, ◌++◌, ◌≡◌, eqb, ℕ, suc, ◌+◌}
+use Rattle.std.specs.Prelude.{cond, List, [], ◌∷◌, ◌++◌, ◌≡◌, ◌==◌, ℕ, suc, ◌+◌}
 use Rattle.syntax.specs.Tree.{Tree}
 use Rattle.calculus.specs.Types.{Ty, int, bool, ◌⇒◌, unknown, RuleHas}
 
@@ -23,11 +23,11 @@ pub record MostGeneral (r : ℕ) (t : Tree) (μ : Ty) : Type 0 where
 -- place k seen is k's number there, or the next free number.
 abbrev pub place : ℕ → List ℕ → ℕ
 place k [] = 0
-place k (j ∷ seen) = cond (eqb k j) 0 (suc (place k seen))
+place k (j ∷ seen) = cond (k == j) 0 (suc (place k seen))
 
 abbrev pub note : ℕ → List ℕ → List ℕ
 note k [] = k ∷ []
-note k (j ∷ seen) = j ∷ cond (eqb k j) seen (note k seen)
+note k (j ∷ seen) = j ∷ cond (k == j) seen (note k seen)
 
 abbrev pub noted : List ℕ → Ty → List ℕ
 noted seen int = seen

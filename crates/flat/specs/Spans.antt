@@ -1,6 +1,6 @@
 -- The lists that slots hold. A list's elements stand side by side, and right behind them a slot
 -- with their count: handle h names the slot h - 1, which ends its list. Handle 0 has the empty list.
-use Rattle.std.specs.Prelude.{◌≡◌, ℕ, zero, suc, ◌+◌, ◌-◌, ◌<◌, cond, List, [], ◌∷◌, length, get_or, replicate, Some, None, Ok, Option, ◌==◌, nat_le, nat_lt, slice_index_or}
+use Rattle.std.specs.Prelude.{◌≡◌, ℕ, zero, suc, ◌+◌, ◌-◌, ◌<◌, cond, List, [], ◌∷◌, length, replicate, Some, None, Ok, Option, ◌==◌, nat_le, nat_lt, slice_index_or}
 use Rattle.store.specs.Lists.{Cleared, Extended}
 use Rattle.store.specs.Room.{counted}
 use Rattle.flat.specs.declared.slot.Slot.{Slot}
@@ -53,9 +53,9 @@ Spanned {T} list (Some n) = (l : List T) × (list ≡ Some l) × (length l ≡ n
 -- and the slot that ends the list; nothing before it changes
 pub record Placed {T : Type 0} (blank : T) (before after : List (Slot T)) (start from n : ℕ) (x : T) : Type 0 where
   pub kept : (k : ℕ) → k < start → slice_index_or after k Spare ≡ slice_index_or before k Spare
-  pub first : get_or after start Spare ≡ Element x
+  pub first : slice_index_or after start Spare ≡ Element x
   pub copied : (j : ℕ) → j < n → slice_index_or after (start + 1 + j) Spare ≡ Element (element_of blank (slice_index_or before (from + j) Spare))
-  pub ended : get_or after (start + 1 + n) Spare ≡ Ends (n + 1)
+  pub ended : slice_index_or after (start + 1 + n) Spare ≡ Ends (n + 1)
 
 -- the elements, the new one, and the slot that ends the list
 abbrev pub cost_of : ℕ → ℕ

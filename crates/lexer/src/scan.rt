@@ -1,5 +1,5 @@
 //! Cuts a text into tokens: blanks are passed over, and the longest token wins.
-ghost use Rattle.std.specs.Prelude.{◌≡◌, ℕ, ◌+◌, ◌<◌, ◌≤◌, min, true, false, length, slice_index};
+ghost use Rattle.std.specs.Prelude.{◌≡◌, ◌+◌, ◌<◌, ◌≤◌, min, true, false, length, slice_index};
 ghost use Rattle.grammar.specs.Reading.{part, Longest};
 ghost use Rattle.grammar.specs.Spelling.{letter, token};
 ghost use Rattle.grammar.specs.Token.{numeral};

@@ -1,6 +1,6 @@
 -- The lists that cells hold: handle h names cell h - 1, and a cell's list is its element
 -- before the list of the handle below it. Handle 0 has the empty list.
-use Rattle.std.specs.Prelude.{ℕ, zero, suc, ◌+◌, ◌-◌, min, cond, List, [], ◌∷◌, length, get_or, replicate, Some, None, Ok, Option, nat_le, nat_lt, slice_index_or}
+use Rattle.std.specs.Prelude.{ℕ, zero, suc, ◌+◌, ◌-◌, min, cond, List, [], ◌∷◌, length, replicate, Some, None, Ok, Option, nat_le, nat_lt, slice_index_or}
 use Rattle.store.specs.Lists.{Cleared, Extended}
 use Rattle.store.specs.Room.{counted}
 use Rattle.linked.specs.declared.cell.Cell.{Cell}
@@ -22,7 +22,7 @@ module _ {T : Type 0} where
   walk blank cells zero h = []
   walk blank cells (suc fuel) zero = []
   walk blank cells (suc fuel) (suc i) =
-      (get_or cells i (blank_cell blank)).element ∷ walk blank cells fuel (lower (suc i) (slice_index_or cells i (blank_cell blank)))
+      (slice_index_or cells i (blank_cell blank)).element ∷ walk blank cells fuel (lower (suc i) (slice_index_or cells i (blank_cell blank)))
 
   -- handles 0 to `made` have a list
   abbrev pub lists_of : T → List (Cell T) → ℕ → ℕ → Option (List T)

@@ -1,5 +1,5 @@
 -- The table of nodes, and the trees that it holds. Assumes nothing.
-use Rattle.std.specs.Prelude.{List, ◌≡◌, pos, length, get_or, set, ℕ, min, ◌+◌, ◌≤◌, ◌<◌}
+use Rattle.std.specs.Prelude.{List, ◌≡◌, pos, length, slice_index_or, set, ℕ, min, ◌+◌, ◌≤◌, ◌<◌}
 use Rattle.syntax.specs.Tree.{Tree, nodes, number, truth, variable, function, application, let_in, sum, at_most, if_else}
 use Rattle.syntax.specs.Record.{encode}
 use Rattle.nodes.specs.declared.node.Node.{Node}
@@ -19,7 +19,7 @@ width (AtMost a b) = 1
 width (IfElse a b c) = 1
 
 abbrev pub at : List Node → ℕ → Node
-at ns i = get_or ns i (Number (pos 0))
+at ns i = slice_index_or ns i (Number (pos 0))
 
 -- the node at a place is the root of this tree, every child at a lower place
 abbrev pub Holds : List Node → ℕ → Tree → Type 0

@@ -1,5 +1,5 @@
 //! What a rule is worked out to.
-ghost use Rattle.std.specs.Prelude.{◌≡◌, pos};
+ghost use Rattle.std.specs.Prelude.{pos};
 ghost use Rattle.readings.specs.declared.value.Value.TheVariants.{Number};
 
 use store::blank::Blank;

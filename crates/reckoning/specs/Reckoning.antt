@@ -1,6 +1,6 @@
 -- Where a run is, and where it is short of room, reckoned from rule, readings, granted steps, whole and costs alone.
 -- Assumes nothing.
-use Rattle.std.specs.Prelude.{Bool, true, false, List, [], ◌∷◌, leb, ℤ, length, ℕ, zero, suc}
+use Rattle.std.specs.Prelude.{Bool, true, false, List, [], ◌∷◌, nat_le, ℤ, length, ℕ, zero, suc}
 use Rattle.std.proofs.Math.Option.{Option, none, some}
 use Rattle.syntax.specs.Tree.{Tree}
 use Rattle.calculus.specs.Term.{numbered}
@@ -66,7 +66,7 @@ reduces room r s rests = s
 reduces room r s (beyond n) = s
 reduces room r s stuck = s
 reduces room r s (plain w) = goes_on s w s.made
-reduces room r s (makes n env w) = extends room r s n env w (leb (price room r env) (free room r s.made))
+reduces room r s (makes n env w) = extends room r s n env w (nat_le (price room r env) (free room r s.made))
 
 abbrev pub if_waiting : State → Reckoned → Reckoned → Reckoned
 if_waiting waiting yes_then no_then = yes_then

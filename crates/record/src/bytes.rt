@@ -1,7 +1,5 @@
 //! Numbers in bytes, the highest byte first.
 ghost use Rattle.std.specs.Prelude.{◌≡◌, ◌+◌, ◌<◌, ◌≤◌, length};
-ghost use Rattle.std.specs.Int.{w32};
-ghost use Rattle.std.proofs.Common.{SFits};
 ghost use Rattle.syntax.specs.Record.{four_bytes, two_bytes};
 ghost use Rattle.record.specs.Bytes.{Stands, two_at};
 

@@ -1,6 +1,4 @@
 //! A whole record.
-ghost use Rattle.std.specs.Prelude.{◌≡◌};
-ghost use Rattle.std.proofs.Math.Option.{none};
 ghost use Rattle.record.specs.Reading.{Judged, Fronted};
 
 use crate::bytes::two_bytes;

@@ -1,5 +1,5 @@
 //! Reading a tree: a node, then its children from left to right.
-ghost use Rattle.std.specs.Prelude.{◌≡◌, ◌+◌, ◌≤◌, length};
+ghost use Rattle.std.specs.Prelude.{◌+◌, ◌≤◌, length};
 ghost use Rattle.record.specs.Reading.{ReadsTree, ReadsTwo};
 
 use crate::fault::RecordFault;

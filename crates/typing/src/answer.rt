@@ -1,5 +1,5 @@
 //! The type answer of a tree.
-ghost use Rattle.std.specs.Prelude.{◌≡◌, ◌+◌, ◌*◌, ◌≤◌, length};
+ghost use Rattle.std.specs.Prelude.{◌+◌, ◌*◌, ◌≤◌, length};
 ghost use Rattle.syntax.specs.Tree.{Tree};
 ghost use Rattle.record.specs.Reading.{IsTree};
 ghost use Rattle.typing.specs.Answered.{Answered, Found};
