@@ -1,15 +1,14 @@
 //! The command `compile`, from the file to the record.
 use crate::arguments::Request;
 use crate::failure::Failure;
-use crate::source;
 use crate::source::RULE;
+use crate::{counting, source};
 use book::name::Book;
 use messages::names::refused;
 use messages::origin::Origin;
 use messages::refusal::show;
 use std::alloc::Global;
 use std::fs;
-use verdicts::walk::node_places;
 
 /// Compiles a text, and prints its record or writes it to a file.
 pub(crate) fn compile(
@@ -60,7 +59,7 @@ fn written(
     record: &[u8],
 ) -> Result<String, Failure> {
     let bytes = record.len();
-    let nodes = node_places(heap, record)?.len();
+    let nodes = counting::count(record);
     let Some(file) = out else {
         let shown = hexadecimal::show(heap, record)?;
         return Ok(format!(in heap; "{shown}\n{bytes} bytes, {nodes} nodes\n")?);

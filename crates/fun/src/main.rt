@@ -10,6 +10,7 @@ mod arguments;
 mod checking;
 mod command;
 mod compiling;
+mod counting;
 mod explain;
 mod failure;
 mod figures;
