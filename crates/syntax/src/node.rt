@@ -1,0 +1,67 @@
+//! The nodes of a tree, as tables hold them.
+ghost use Rattle.std.specs.Prelude.{◌≡◌, pos};
+ghost use Rattle.syntax.specs.declared.node.Node.TheVariants.{Number, Variable, Application, Sum};
+ghost use Rattle.syntax.specs.Kinds.{kind_of};
+
+use crate::kind::Kind;
+
+/// A node, its children by their places in the table.
+#[derive(Clone, Copy, Debug, PartialEq, Eq)]
+pub enum Node {
+    Number(i32),
+    Truth(bool),
+    /// How many binders stand between a variable and its own.
+    Variable(usize),
+    Function(usize),
+    Application(usize, usize),
+    LetIn(usize, usize),
+    Sum(usize, usize),
+    AtMost(usize, usize),
+    IfElse(usize, usize, usize),
+}
+
+impl Default for Node {
+    ghost is_default = { λ node. node ≡ Number (pos 0) };
+
+    fn default() -> Node {
+        Node::Number(0)
+    }
+}
+
+impl Node {
+    pub fn variable(distance: usize) -> Node
+        ensures { result ≡ Variable distance }
+    {
+        Node::Variable(distance)
+    }
+
+    pub fn applied(function: usize, argument: usize) -> Node
+        ensures { result ≡ Application function argument }
+    {
+        Node::Application(function, argument)
+    }
+
+    pub fn summed(left: usize, right: usize) -> Node
+        ensures { result ≡ Sum left right }
+    {
+        Node::Sum(left, right)
+    }
+
+    /// What a record announces the node as.
+    pub fn kind(self) -> Kind
+        ensures { result ≡ kind_of self }
+    {
+        match self {
+            Node::Number(_) => Kind::Number,
+            Node::Truth(false) => Kind::False,
+            Node::Truth(true) => Kind::True,
+            Node::Variable(_) => Kind::Variable,
+            Node::Function(_) => Kind::Function,
+            Node::Application(_, _) => Kind::Application,
+            Node::LetIn(_, _) => Kind::LetIn,
+            Node::Sum(_, _) => Kind::Sum,
+            Node::AtMost(_, _) => Kind::AtMost,
+            Node::IfElse(_, _, _) => Kind::IfElse,
+        }
+    }
+}
