@@ -7,7 +7,13 @@ use Rattle.grammar.specs.Spelling.{letter, digit, decimal}
 use Rattle.grammar.specs.Reading.{part, Longest, NoneBeyond}
 use Rattle.grammar.proofs.Lexing.{part_cons, longest_digits, longest_minus, none_at}
 use Rattle.lexer.specs.declared.token.Placed.{Placed}
-use Rattle.lexer.specs.declared.scan.Kind.TheVariants.{Digit}
+use Rattle.lexer.specs.declared.run.Kind.TheVariants.{Digit}
+use Rattle.grammar.specs.Reading.{NoNext}
+use Rattle.grammar.specs.Walking.{Unread}
+use Rattle.grammar.specs.Walking.{no_token as unread}
+use Rattle.lexer.specs.declared.fault.LexFault.{LexFault}
+use Rattle.lexer.specs.declared.fault.LexFault.TheVariants.{NoToken}
+use Rattle.lexer.specs.Faults.{number, place}
 use Rattle.lexer.specs.Shown.{value, shown}
 use Rattle.lexer.specs.Runs.{Run}
 
@@ -49,3 +55,7 @@ no_less s a e no_equals = none_at s a 60 e refl (λ lt r. let n = ne_eqb (get_or
 -- a byte that begins no token
 pub no_token : (s : List ℕ) (a : ℕ) → letter (get_or s a 0) ≡ false → digit (get_or s a 0) ≡ false → eqb (get_or s a 0) 45 ≡ false → eqb (get_or s a 0) 61 ≡ false → eqb (get_or s a 0) 60 ≡ false → eqb (get_or s a 0) 43 ≡ false → eqb (get_or s a 0) 40 ≡ false → eqb (get_or s a 0) 41 ≡ false → NoneBeyond s a a
 no_token s a l d e₁ e₂ e₃ e₄ e₅ e₆ = none_at s a (get_or s a 0) refl (rw (l, d, e₁, e₂, e₃, e₄, e₅, e₆)) (λ lt r. rw (l, d, e₁, e₂, e₃, e₄, e₅, e₆))
+
+-- where no token begins, none is read
+pub refused_part : (s : List ℕ) (from : ℕ) (f : LexFault) → (f ≡ NoToken (place f)) × NoNext s from (place f) → Unread s from (number f) (place f)
+refused_part s from f h = subst (λ n. Unread s from n (place f)) (sym (ap number h.0)) (unread h.1)

@@ -1,5 +1,6 @@
 pub mod Keywords
 pub mod Lexemes
+pub mod Running
 pub mod Decimals
 pub mod Amounting
 pub mod Names

@@ -1,8 +1,8 @@
 -- Runs of bytes of one kind. Assumes nothing.
 use Rattle.std.specs.Prelude.{◌≡◌, ℕ, ◌<◌, ◌≤◌, Bool, true, false, List, length, slice_index}
 use Rattle.grammar.specs.Spelling.{blank, digit, word_byte}
-use Rattle.lexer.specs.declared.scan.Kind.{Kind}
-use Rattle.lexer.specs.declared.scan.Kind.TheVariants.{Blank, Digit, Word}
+use Rattle.lexer.specs.declared.run.Kind.{Kind}
+use Rattle.lexer.specs.declared.run.Kind.TheVariants.{Blank, Digit, Word}
 
 abbrev pub belongs : Kind → ℕ → Bool
 belongs Blank c = blank c

@@ -7,6 +7,7 @@ use Rattle.grammar.specs.Spelling.{decimal, fit}
 use Rattle.grammar.specs.Walking.{Unread, is_name}
 use Rattle.grammar.specs.Reading.{Next, NoNext, NoneBeyond, Longest}
 use Rattle.lexer.specs.declared.fault.LexFault.{LexFault}
+use Rattle.lexer.specs.declared.fault.LexFault.TheVariants.{NoToken}
 use Rattle.lexer.specs.Faults.{number, place}
 use Rattle.lexer.specs.declared.token.Token.{Token}
 use Rattle.lexer.specs.declared.token.Token.TheVariants.{Mark, Name, Number, End}
@@ -29,14 +30,14 @@ Followed s place c true = (place + 1 < length s) × (slice_index s (place + 1) �
 Followed s place c false = place + 1 < length s → slice_index s (place + 1) ≢ c
 
 -- the longest token at a place, or that none begins there
-abbrev pub TokenAt : List ℕ → ℕ → Result Placed ℕ → Type 0
+abbrev pub TokenAt : List ℕ → ℕ → Result Placed LexFault → Type 0
 TokenAt s place (Ok p) = (p.place ≡ place) × Longest s place p.stop (shown p.token)
-TokenAt s place (Err q) = (q ≡ place) × NoneBeyond s place place
+TokenAt s place (Err f) = (f ≡ NoToken place) × NoneBeyond s place place
 
 -- the next token after `from`, or the place where none begins
-abbrev pub Scans : List ℕ → ℕ → Result Placed ℕ → Type 0
+abbrev pub Scans : List ℕ → ℕ → Result Placed LexFault → Type 0
 Scans s from (Ok p) = Next s from (shown p.token) p.place p.stop
-Scans s from (Err place) = NoNext s from place
+Scans s from (Err f) = (f ≡ NoToken (place f)) × NoNext s from (place f)
 
 -- the next token after `from`, in range, or why it is refused
 abbrev pub Lexes : List ℕ → ℕ → Result Placed LexFault → Type 0

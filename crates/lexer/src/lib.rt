@@ -10,5 +10,7 @@
 pub mod ask;
 pub mod fault;
 pub mod number;
+mod run;
 pub mod scan;
+mod start;
 pub mod token;

@@ -1,5 +1,5 @@
 //! What the digits of a number token come to.
-ghost use Rattle.std.specs.Prelude.{◌≡◌, ◌≤◌, min, pos, neg_ℤ};
+ghost use Rattle.std.specs.Prelude.{◌≡◌, min};
 ghost use Rattle.grammar.specs.Spelling.{decimal};
 ghost use Rattle.lexer.specs.Amounts.{Amount};
 ghost use Rattle.lexer.specs.Shown.{value};
@@ -19,33 +19,13 @@ fn magnitude(digits: &[u8]) -> u64
     sum
 }
 
-fn positive(n: u64) -> Option<i32>
-    requires { n ≤ 2147483649 }
-    ensures { Amount (pos n) result }
-{
-    if n < 2_147_483_648 {
-        Some(n as i32)
-    } else {
-        None
-    }
-}
-
-fn negative(n: u64) -> Option<i32>
-    requires { n ≤ 2147483649 }
-    ensures { Amount (neg_ℤ (pos n)) result }
-{
-    if n > 2_147_483_648 {
-        return None;
-    }
-    Some((0 - n as i64) as i32)
-}
-
 /// The number that a number token spells, if it is in range.
 pub fn amount(spelled: &[u8]) -> Option<i32>
     ensures { Amount (value spelled.now) result }
 {
-    if spelled.len() > 0 && spelled[0] == b'-' {
-        return negative(magnitude(&spelled[1..]));
-    }
-    positive(magnitude(spelled))
+    let number = match spelled {
+        [b'-', digits @ ..] => -(magnitude(digits) as i64),
+        digits => magnitude(digits) as i64,
+    };
+    i32::try_from(number).ok()
 }

@@ -1,4 +1,4 @@
-use Rattle.std.proofs.Common.{sym, ap, ◌∙◌, arith, ne_eqb}
+use Rattle.std.proofs.Common.{◌<◌, length, sym, ap, ◌∙◌, arith, ne_eqb, rules, tests}
 use Rattle.lexer.specs.Shown.{named}
 use Rattle.lexer.proofs.Names.{token_whole, token_short}
 use Rattle.lexer.proofs.scan.is_name.Goals as goal
@@ -13,4 +13,6 @@ returns-else-placed-bytes c =
     ne_eqb _ _ c.if-placed-bytes.false ∙ ap named (sym (token_short c.args.bytes.now c.in-Ok.placed.stop l.longest (omega (arith, l.inside, c.if-placed-bytes.false))))
 
 pub returns-in-Err : goal.returns-in-Err
-returns-in-Err c = ap named (sym (token_short c.args.bytes.now 0 c.in-Err.ensures.1 (omega (arith, c.if-bytes-eq0.false))))
+returns-in-Err c =
+    let some : 0 < length c.args.bytes.now = search (rules, tests) in
+    ap named (sym (token_short c.args.bytes.now 0 c.in-Err.ensures.1 some))

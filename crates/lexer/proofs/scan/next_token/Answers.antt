@@ -1,16 +1,19 @@
 use Rattle.std.proofs.Common.{min, length, ap, subst}
-use Rattle.grammar.specs.Reading.{Next, NoNext}
-use Rattle.grammar.specs.Walking.{no_token, no_range}
+use Rattle.std.proofs.lemmas.Result.{err_from_is_err_and}
+use Rattle.grammar.specs.Reading.{Next}
+use Rattle.grammar.specs.Walking.{no_range}
 use Rattle.lexer.specs.Shown.{shown, value}
 use Rattle.lexer.proofs.Amounting.{amount_none}
+use Rattle.lexer.proofs.Lexemes.{refused_part}
 use Rattle.lexer.proofs.scan.next_token.Goals as goal
 
-pub returns-then-is_none : goal.returns-then-is_none
-returns-then-is_none c =
-    let s = c.args.text.now in
-    let p = c.in-Ok.next in
-    let found = subst (λ i. Next s i (shown p.token) p.place p.stop) c.min-from.ensures c.in-Ok.ensures in
-    no_range (subst (λ t. Next s (min c.args.from (length s)) t p.place p.stop) (ap shown c.in-Number.is) found) (amount_none (value c.in-Number.spelled.now) c.amount.result c.amount.ensures c.if-is_none.ensures)
+pub returns-in_err-next : goal.returns-in_err-next
+returns-in_err-next c =
+    let p = err_from_is_err_and c.from_residual.result c.from_residual.ensures.1 in
+    rw (p.1, p.2) (refused_part _ _ _ c.in_err-next.ensures)
 
-pub returns-in-Err : goal.returns-in-Err
-returns-in-Err c = no_token (subst (λ i. NoNext c.args.text.now i c.in-Err.place) c.min-from.ensures c.in-Err.ensures)
+pub returns-in-Number : goal.returns-in-Number
+returns-in-Number c =
+    let s = c.args.text.now in
+    let p = c.in_ok-next.next in
+    no_range (subst (λ t. Next s (min c.args.from (length s)) t p.place p.stop) (ap shown c.in-Number.is) c.in_ok-next.ensures) (amount_none (value c.in-Number.spelled.now) c.amount.result c.amount.ensures c.if-is_none.ensures)

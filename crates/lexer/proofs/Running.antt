@@ -1,0 +1,47 @@
+-- A run ends before the first byte of another kind. Assumes nothing.
+use Rattle.std.proofs.Common.{◌≡◌, ℕ, ◌+◌, ◌-◌, ◌<◌, ◌≤◌, true, false, List, length, get_or, drop, Some, None, Option, sym, ap, ◌∙◌, subst, arith}
+use Rattle.std.specs.List.{AllWithin, HoldsAt}
+use Rattle.std.specs.Option.{MatchOption}
+use Rattle.std.proofs.lemmas.List.{get_or-drop, length-drop}
+use Rattle.lexer.specs.declared.run.Kind.{Kind}
+use Rattle.lexer.specs.Runs.{belongs, Run}
+
+abbrev pub Is : Kind → ℕ → Type 0
+Is kind c = belongs kind c ≡ true
+
+abbrev pub IsNot : Kind → ℕ → Type 0
+IsNot kind c = belongs kind c ≡ false
+
+-- where the first byte of another kind stands among those from a place on
+abbrev pub First : Kind → List ℕ → ℕ → Option ℕ → Type 0
+First kind s from r = MatchOption r (AllWithin (Is kind) (drop from s) 0 (length (drop from s))) (λ i. (i < length (drop from s)) × HoldsAt (IsNot kind) (drop from s) i × AllWithin (Is kind) (drop from s) 0 i)
+
+module _ (kind : Kind) (s : List ℕ) (from : ℕ) (inside : from ≤ length s) where
+  behind : (n : ℕ) → AllWithin (Is kind) (drop from s) 0 n → (i : ℕ) → from ≤ i → i < from + n → belongs kind (get_or s i 0) ≡ true
+  behind n all i low high =
+      let at : from + (i - from) ≡ i = omega arith in
+      let there = all (i - from) 0 (omega arith) (omega arith) in
+      subst (λ c. Is kind c) (get_or-drop from s (i - from) 0 ∙ ap (λ k. get_or s k 0) at) there
+
+  pub run_stops : (n : ℕ) (r : Option ℕ) → r ≡ Some n → First kind s from r → Run kind s from (from + n)
+  run_stops n r is first =
+      let f : First kind s from (Some n) = subst (First kind s from) is first in
+      let long = length-drop from s in
+      record {
+        from = omega arith;
+        inside = omega (arith, f.0);
+        of_kind = behind n f.2;
+        stops = λ more. subst (λ c. IsNot kind c) (get_or-drop from s n 0) (f.1 0);
+      }
+
+  pub run_ends : (r : Option ℕ) → r ≡ None → First kind s from r → Run kind s from (length s)
+  run_ends r is first =
+      let f : First kind s from None = subst (First kind s from) is first in
+      let long = length-drop from s in
+      let whole : from + length (drop from s) ≡ length s = omega arith in
+      record {
+        from = inside;
+        inside = omega arith;
+        of_kind = λ i low high. behind (length (drop from s)) f i low (subst (λ n. i < n) (sym whole) high);
+        stops = λ more. absurd (omega arith);
+      }
