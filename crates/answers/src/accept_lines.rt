@@ -1,43 +1,28 @@
 //! Lines of the kind `accept`: `T1 T2 B RECORD`, how many entries the two work tables and the type
 //! buffer have, and the record in hexadecimal.
-use crate::fields::{bytes, count, split_field};
+use crate::fields::{Fields, bytes, number};
 use crate::trouble::Trouble;
 use std::alloc::Global;
 use typing::accept::accept;
 use typing::rule::Rule;
 
 /// Accepts the record of one line.
-pub(crate) fn answer(heap: Global, fields: &str, out: &mut String) -> Result<(), Trouble> {
-    let (first, rest) = split_field(fields);
-    let (second, rest) = split_field(rest);
-    let (types, record) = split_field(rest);
-    let mut first = vec![in heap; 0u16; count(first)?]?;
-    let mut second = vec![in heap; 0u16; count(second)?]?;
-    let mut types = vec![in heap; 0u16; count(types)?]?;
-    let record = bytes(heap, record)?;
-    let mut rule = Rule::new();
-    match accept(
+pub(crate) fn answer(heap: Global, mut fields: Fields) -> Result<String, Trouble> {
+    let mut first = vec![in heap; 0u16; number(fields.next())?]?;
+    let mut second = vec![in heap; 0u16; number(fields.next())?]?;
+    let mut types = vec![in heap; 0u16; number(fields.next())?]?;
+    let record = bytes(heap, fields.last())?;
+    let count = accept(
         record.as_slice(),
         &mut first,
         &mut second,
         &mut types,
-        &mut rule,
-    ) {
-        Ok(count) => {
-            types.truncate(count);
-            out.push_str(format!(in heap; "ok {count} ")?.as_str())?;
-            for (at, entry) in types.iter().enumerate() {
-                if at > 0 {
-                    out.push(',')?;
-                }
-                out.push_str(format!(in heap; "{entry}")?.as_str())?;
-            }
-        }
-        Err(fault) => {
-            let number = fault.number();
-            let place = fault.place();
-            out.push_str(format!(in heap; "refused {number} {place}")?.as_str())?;
-        }
-    }
-    Ok(())
+        &mut Rule::new(),
+    )?;
+    let entries: Vec<String> = types[..count]
+        .iter()
+        .map(|entry| entry.to_string(heap))
+        .try_collect(heap)?;
+    let entries = entries.join(heap, ",")?;
+    Ok(format!(in heap; "ok {count} {entries}")?)
 }

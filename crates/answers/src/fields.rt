@@ -1,34 +1,58 @@
 //! The fields of a line.
 use crate::trouble::Trouble;
 use std::alloc::Global;
+use std::str::FromStr;
 
-/// The first field of a text, and what stands behind the space.
-pub(crate) fn split_field<'a>(text: &'a str) -> (&'a str, &'a str) {
-    match text.split_once(' ') {
-        Some(parts) => parts,
-        None => (text, ""),
+/// The fields of a line that are still to be read; a space stands between two.
+#[derive(Clone, Copy)]
+pub(crate) struct Fields<'a> {
+    rest: &'a str,
+}
+
+impl<'a> Fields<'a> {
+    pub(crate) fn of(line: &'a str) -> Fields<'a> {
+        Fields { rest: line }
+    }
+
+    /// The next field, which is empty where the line has ended.
+    pub(crate) fn next(&mut self) -> &'a str {
+        let (field, rest) = self.rest.split_once(' ').unwrap_or((self.rest, ""));
+        self.rest = rest;
+        field
+    }
+
+    /// All that is left, as one field.
+    pub(crate) fn last(self) -> &'a str {
+        self.rest
     }
 }
 
-pub(crate) fn count(text: &str) -> Result<usize, Trouble> {
-    match text.parse::<usize>() {
-        Ok(number) => Ok(number),
-        Err(_) => Err(Trouble::Unreadable("a count was expected")),
-    }
+/// A number that fields have.
+pub(crate) trait Figure: FromStr {
+    /// What is said where a field is no such number.
+    const WANTED: &'static str;
 }
 
-pub(crate) fn natural(text: &str) -> Result<u32, Trouble> {
-    match text.parse::<u32>() {
-        Ok(number) => Ok(number),
-        Err(_) => Err(Trouble::Unreadable("a number from 0 to 4294967295 was expected")),
-    }
+impl Figure for usize {
+    const WANTED: &'static str = "a count was expected";
 }
 
-pub(crate) fn integer(text: &str) -> Result<i32, Trouble> {
-    match text.parse::<i32>() {
-        Ok(number) => Ok(number),
-        Err(_) => Err(Trouble::Unreadable("a whole number of 32 bits was expected")),
-    }
+impl Figure for u32 {
+    const WANTED: &'static str = "a number from 0 to 4294967295 was expected";
+}
+
+impl Figure for i32 {
+    const WANTED: &'static str = "a whole number of 32 bits was expected";
+}
+
+/// The number that a field is.
+pub(crate) fn number<T: Figure>(field: &str) -> Result<T, Trouble>
+where
+    T::Err: Drop,
+{
+    field
+        .parse::<T>()
+        .map_err(|_| Trouble::Unreadable(T::WANTED))
 }
 
 /// The bytes that are written in hexadecimal; `-` stands for none.
@@ -36,8 +60,7 @@ pub(crate) fn bytes(heap: Global, digits: &str) -> Result<Vec<u8>, Trouble> {
     if digits == "-" {
         return Ok(Vec::new(heap));
     }
-    match hexadecimal::read(heap, digits.as_bytes())? {
-        Some(bytes) => Ok(bytes),
-        None => Err(Trouble::Unreadable("bytes in hexadecimal were expected")),
-    }
+    hexadecimal::read(heap, digits.as_bytes())?.ok_or(Trouble::Unreadable(
+        "bytes in hexadecimal were expected",
+    ))
 }

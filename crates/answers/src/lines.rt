@@ -1,5 +1,5 @@
 //! Which part of the program answers which line.
-use crate::fields::split_field;
+use crate::fields::Fields;
 use crate::trouble::Trouble;
 use crate::{accept_lines, compile_lines, store_lines};
 use std::alloc::{AllocError, Global};
@@ -9,17 +9,16 @@ pub(crate) fn answer(heap: Global, line: &str) -> Result<String, AllocError> {
     if line.is_empty() || line.starts_with('#') {
         return String::from_str(heap, line);
     }
-    let mut out = String::new(heap);
-    let (kind, fields) = split_field(line);
-    let done = match kind {
-        "accept" => accept_lines::answer(heap, fields, &mut out),
-        "compile" => compile_lines::answer(heap, fields, &mut out),
-        "store" => store_lines::answer(heap, fields, &mut out),
+    let mut fields = Fields::of(line);
+    let answer = match fields.next() {
+        "accept" => accept_lines::answer(heap, fields),
+        "compile" => compile_lines::answer(heap, fields),
+        "store" => store_lines::answer(heap, fields),
         _ => Err(Trouble::Unreadable("no such kind of line")),
     };
-    match done {
-        Ok(()) => Ok(out),
-        Err(Trouble::NoMemory) => Err(AllocError),
-        Err(Trouble::Unreadable(why)) => format!(in heap; "error {why}"),
+    match answer {
+        Ok(answer) => Ok(answer),
+        Err(Trouble::NoMemory(error)) => Err(error),
+        Err(trouble) => trouble.to_string(heap),
     }
 }

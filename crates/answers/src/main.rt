@@ -5,6 +5,7 @@
 #![tactic(auto)]
 
 mod accept_lines;
+mod calls;
 mod compile_lines;
 mod fields;
 mod lines;

@@ -1,6 +1,7 @@
 //! Lines of the kind `store`: `STORE SIZE LAYER CALLS`, where LAYER is `-` or the readings of a
 //! layer above the store, and the calls are `c`, `eH:V`, `lH:I` and `f`.
-use crate::fields::{count, integer, natural, split_field};
+use crate::calls::{Answer, Call};
+use crate::fields::{Fields, number};
 use crate::trouble::Trouble;
 use flat::flat_store::FlatStore;
 use flat::slot::Slot;
@@ -9,25 +10,24 @@ use linked::linked::LinkedStore;
 use readings::layer::ReadingsLayer;
 use readings::readings_list::Readings;
 use readings::value::Value;
-use std::alloc::Global;
+use std::alloc::{AllocError, Global};
 use store::blank::Blank;
 use store::contract::{BareStore, Store};
-use store::fault::StoreFault;
 
 /// Answers the calls of one line on a store of its own.
-pub(crate) fn answer(heap: Global, fields: &str, out: &mut String) -> Result<(), Trouble> {
-    let (kind, rest) = split_field(fields);
-    let (size, rest) = split_field(rest);
-    let (layer, calls) = split_field(rest);
-    let size = count(size)?;
+pub(crate) fn answer(heap: Global, mut fields: Fields) -> Result<String, Trouble> {
+    let kind = fields.next();
+    let size = number(fields.next())?;
+    let layer = fields.next();
+    let calls = fields.last();
     match kind {
         "linked" => {
             let mut cells = vec![in heap; Cell::blank(); size]?;
-            on_store(heap, LinkedStore::new(&mut cells), layer, calls, out)
+            on_store(heap, LinkedStore::new(&mut cells), layer, calls)
         }
         "flat" => {
             let mut slots = vec![in heap; Slot::Spare; size]?;
-            on_store(heap, FlatStore::new(&mut slots), layer, calls, out)
+            on_store(heap, FlatStore::new(&mut slots), layer, calls)
         }
         _ => Err(Trouble::Unreadable("no such store")),
     }
@@ -39,19 +39,18 @@ fn on_store<S: BareStore + Store<Elem = Value> + Drop>(
     mut store: S,
     layer: &str,
     calls: &str,
-    out: &mut String,
-) -> Result<(), Trouble> {
+) -> Result<String, Trouble> {
     if layer == "-" {
-        return answer_calls(heap, &mut store, calls, out);
+        return answer_calls(heap, &mut store, calls);
     }
-    let mut numbers = Vec::new(heap);
-    for reading in layer.split(':') {
-        numbers.push(integer(reading)?)?;
-    }
+    let numbers: Vec<i32> = layer
+        .split(':')
+        .map(|reading| number(reading))
+        .try_collect(heap)?;
     let mut layered = ReadingsLayer::new(store, Readings::new(numbers.as_slice()));
-    let done = answer_calls(heap, &mut layered, calls, out);
+    let answers = answer_calls(heap, &mut layered, calls);
     drop(layered.into_below());
-    done
+    answers
 }
 
 /// The answers to all calls, joined by `; `.
@@ -59,110 +58,43 @@ fn answer_calls<S: Store<Elem = Value>>(
     heap: Global,
     store: &mut S,
     calls: &str,
-    out: &mut String,
-) -> Result<(), Trouble> {
-    let mut handles = Vec::new(heap);
+) -> Result<String, Trouble> {
     if calls == "-" {
-        return Ok(());
+        return Ok(String::new(heap));
     }
+    let mut handles = Vec::new(heap);
+    let mut answers = Vec::new(heap);
     for call in calls.split(',') {
-        if !out.is_empty() {
-            out.push_str("; ")?;
-        }
-        answer_call(heap, store, &mut handles, call, out)?;
+        let call = Call::read(call, handles.as_slice())?;
+        let answer = answer_call(store, &mut handles, call)?;
+        answers.push(answer.to_string(heap)?)?;
     }
-    Ok(())
+    Ok(answers.join(heap, "; ")?)
 }
 
-/// The answer to one call. The handles of `extend`, since the last `clear`, go by their order.
+/// The answer to one call. The handles of `extend` are kept in their order until the next `clear`.
 fn answer_call<S: Store<Elem = Value>>(
-    heap: Global,
     store: &mut S,
     handles: &mut Vec<u32>,
-    call: &str,
-    out: &mut String,
-) -> Result<(), Trouble> {
-    if call == "c" {
-        store.clear();
-        handles.clear();
-        out.push_str("ok")?;
-    } else if call == "f" {
-        let free = store.free();
-        out.push_str(format!(in heap; "free={free}")?.as_str())?;
-    } else if let Some(rest) = call.strip_prefix('e') {
-        let (handle, number) = handle_and(rest, handles.as_slice())?;
-        let answered = store.extend(handle, Value::Number(integer(number)?));
-        extended(heap, answered, handles, out)?;
-    } else if let Some(rest) = call.strip_prefix('l') {
-        let (handle, index) = handle_and(rest, handles.as_slice())?;
-        looked(heap, store.look(handle, natural(index)?), out)?;
-    } else {
-        return Err(Trouble::Unreadable("no such call of a store"));
-    }
-    Ok(())
-}
-
-/// The handle in `H:X`, and the text X.
-fn handle_and<'a>(text: &'a str, handles: &[u32]) -> Result<(u32, &'a str), Trouble> {
-    let Some((handle, rest)) = text.split_once(':') else {
-        return Err(Trouble::Unreadable("a handle and a colon were expected"));
-    };
-    if let Some(bare) = handle.strip_prefix('!') {
-        return Ok((natural(bare)?, rest));
-    }
-    Ok((handle_at(handles, count(handle)?), rest))
-}
-
-/// The handle that was answered as the so-many-th; one that has no list where there is none.
-fn handle_at(handles: &[u32], order: usize) -> u32 {
-    if order == 0 {
-        return 0;
-    }
-    if order <= handles.len() {
-        handles[order - 1]
-    } else {
-        u32::MAX
-    }
-}
-
-fn extended(
-    heap: Global,
-    answered: Result<u32, StoreFault>,
-    handles: &mut Vec<u32>,
-    out: &mut String,
-) -> Result<(), Trouble> {
-    match answered {
-        Ok(handle) => {
-            handles.push(handle)?;
-            let order = handles.len();
-            out.push_str(format!(in heap; "ok #{order}")?.as_str())?;
+    call: Call,
+) -> Result<Answer, AllocError> {
+    match call {
+        Call::Clear => {
+            store.clear();
+            handles.clear();
+            Ok(Answer::Cleared)
         }
-        Err(fault) => refused(heap, fault, out)?,
+        Call::Free => Ok(Answer::Free(store.free())),
+        Call::Extend { handle, value } => match store.extend(handle, Value::Number(value)) {
+            Ok(handle) => {
+                handles.push(handle)?;
+                Ok(Answer::Extended(handles.len()))
+            }
+            Err(fault) => Ok(Answer::Refused(fault)),
+        },
+        Call::Look { handle, index } => match store.look(handle, index) {
+            Ok(value) => Ok(Answer::Found(value)),
+            Err(fault) => Ok(Answer::Refused(fault)),
+        },
     }
-    Ok(())
-}
-
-fn looked(
-    heap: Global,
-    answered: Result<Value, StoreFault>,
-    out: &mut String,
-) -> Result<(), Trouble> {
-    match answered {
-        Ok(value) => {
-            let text = match value {
-                Value::Number(number) => format!(in heap; "ok {number}")?,
-                Value::Truth(truth) => format!(in heap; "ok {truth}")?,
-                Value::Function { node, .. } => format!(in heap; "ok fun{node}")?,
-            };
-            out.push_str(text.as_str())?;
-        }
-        Err(fault) => refused(heap, fault, out)?,
-    }
-    Ok(())
-}
-
-fn refused(heap: Global, fault: StoreFault, out: &mut String) -> Result<(), Trouble> {
-    let number = fault.number();
-    out.push_str(format!(in heap; "refused {number}")?.as_str())?;
-    Ok(())
 }

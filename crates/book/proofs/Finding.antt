@@ -1,6 +1,12 @@
 -- Looking a name up, one name after another. Assumes nothing.
 use Rattle.std.proofs.Common.{◌≡◌, ℕ, suc, ◌+◌, ◌<◌, ◌≤◌, Bool, true, false, cond, List, [], ◌∷◌, ◌++◌, map, length, get_or, drop, sym, refl, ap, ◌∙◌, subst, arith}
+use Rattle.std.proofs.Common.{zero, Some, None}
+use Rattle.std.proofs.Common.{Option as Index}
 use mathlib.Core.Option.{Option, some, none}
+use Rattle.std.specs.List.{AllWithin, HoldsAt}
+use Rattle.std.specs.Option.{MatchOption}
+use Rattle.std.proofs.lemmas.List.{get_or_default}
+use Rattle.book.specs.Books.{Found}
 use Rattle.std.proofs.lemmas.List.{drop-map, drop_more, drop_all}
 use Rattle.grammar.specs.Names.{same, next, distance}
 use Rattle.grammar.specs.Token.{Name}
@@ -40,6 +46,23 @@ module _ {X : Type 0} (f : X → Name) (xs : List X) (x : Name) (i : ℕ) where
 
   pub look_none : length xs ≤ i → distance (map f xs) x ≡ later i (distance (drop i (map f xs)) x) → distance (map f xs) x ≡ none
   look_none h inv = inv ∙ ap (λ l. later i (distance l x)) (drop-map f i xs ∙ ap (map f) (drop_all i xs h))
+
+-- ── the first that is called so ──
+
+module _ {X : Type 0} (f : X → Name) (xs : List X) (x : Name) (d : X) where
+  passed : (n : ℕ) → n ≤ length xs → AllWithin (λ y. same x (f y) ≡ false) xs 0 n → distance (map f xs) x ≡ later n (distance (drop n (map f xs)) x)
+  passed zero le all = sym (later_zero (distance (map f xs) x))
+  passed (suc n) le all =
+      let here : n < length xs = omega arith in
+      let before = passed n (omega arith) (λ k e low high. all k e low (omega arith)) in
+      let step = look_on f xs x n (get_or xs n d) here (get_or_default xs n d (get_or xs n d) here) (all n d (omega arith) (omega arith)) before in
+      let e : n + 1 ≡ suc n = omega arith in
+      subst (λ k. distance (map f xs) x ≡ later k (distance (drop k (map f xs)) x)) e step
+
+  -- as a search for it tells
+  pub found_first : (r : Index ℕ) → MatchOption r (AllWithin (λ y. same x (f y) ≡ false) xs 0 (length xs)) (λ i. (i < length xs) × HoldsAt (λ y. same x (f y) ≡ true) xs i × AllWithin (λ y. same x (f y) ≡ false) xs 0 i) → Found (map f xs) x r
+  found_first (Some i) h = look_here f xs x i (get_or xs i d) h.0 (get_or_default xs i d (get_or xs i d) h.0) (h.1 d) (passed i (omega (arith, h.0)) h.2)
+  found_first None h = look_none f xs x (length xs) (omega arith) (passed (length xs) (omega arith) h)
 
 -- ── one list behind another ──
 

@@ -1,5 +1,5 @@
 -- What a names book holds, and which names it takes. Assumes nothing.
-use Rattle.std.specs.Prelude.{◌≡◌, ℕ, Bool, true, false, ◌&&◌, List, [], ◌∷◌, ◌++◌, map, length, take, Some, None, Ok, Err, Option, Result, nat_le, nat_lt}
+use Rattle.std.specs.Prelude.{◌≡◌, ℕ, Bool, true, false, ◌&&◌, List, [], ◌∷◌, ◌++◌, map, length, Some, None, Ok, Err, Option, Result, nat_le, nat_lt}
 use Rattle.std.proofs.Math.Option.{some, none}
 use Rattle.std.proofs.Math.Option as Lookup
 use Rattle.grammar.specs.Names.{distance}
@@ -7,15 +7,12 @@ use Rattle.grammar.specs.Spelling.{token}
 use Rattle.lexer.specs.Shown.{named}
 use Rattle.grammar.specs.Token as plain
 use Rattle.book.specs.declared.fault.NameFault.{NameFault}
-use Rattle.book.specs.declared.name.Name.{Name}
-use Rattle.book.specs.declared.name.Book.{Book}
-
-abbrev pub spelled : Name → plain.Name
-spelled n = take n.length n.bytes
+use Rattle.book.specs.declared.book.Book.{Book}
+use Rattle.book.specs.Spelled.{spelled}
 
 -- the names in a book, the first for reading 0
 abbrev pub names : Book → List plain.Name
-names b = map spelled (take b.count b.names)
+names b = map spelled b.names.items
 
 -- how far down a list a name stands first
 abbrev pub Found : List plain.Name → plain.Name → Option ℕ → Type 0

@@ -1,24 +1,44 @@
-//! The names book's own memory.
-ghost use Rattle.std.specs.Prelude.{◌≡◌, ◌≤◌, length};
+//! A name of a reading, in memory of its own.
+ghost use Rattle.std.specs.Prelude.{◌≡◌, ◌≤◌, ◌↔◌, length, IsOk, OnOk, IfOk};
+ghost use Rattle.grammar.specs.Names.{same};
+ghost use Rattle.book.specs.Spelled.{spelled, Copied};
+
+use crate::fault::NameFault;
+use arrayvec::ArrayVec;
 
 /// How long a reading's name may be, in bytes.
-pub(crate) const MOST_BYTES: usize = 32;
+pub const MOST_BYTES: usize = 32;
 
-/// How many readings a rule may have.
-pub(crate) const MOST_READINGS: usize = 8;
-
-#[derive(Clone, Copy)]
+/// A copy of a name, so that whoever brought it may reuse its memory.
+#[derive(Default, Drop)]
 pub(crate) struct Name {
-    pub(crate) bytes: [u8; MOST_BYTES],
-    pub(crate) length: usize,
-    ghost short: { length ≤ 32 },
+    bytes: ArrayVec<u8, MOST_BYTES>,
 }
 
-/// The names of the readings, the first for reading 0. A book begins empty.
-#[derive(Drop)]
-pub struct Book {
-    pub(crate) names: [Name; MOST_READINGS],
-    pub(crate) count: usize,
-    ghost whole: { length names ≡ 8 },
-    ghost few: { count ≤ 8 },
+impl TryFrom<&[u8]> for Name {
+    type Error = NameFault;
+
+    ghost try_from_gives = { λ name r. Copied name.now r };
+
+    fn try_from(name: &[u8]) -> Result<Name, NameFault> {
+        match ArrayVec::try_from(name) {
+            Ok(bytes) => Ok(Name { bytes }),
+            Err(_) => Err(NameFault),
+        }
+    }
+}
+
+impl Name {
+    pub(crate) fn is(&self, name: &[u8]) -> bool
+        ensures { result ≡ same name.now (spelled self.now) }
+    {
+        same_bytes(name, &self.bytes)
+    }
+}
+
+/// Whether two names are equal.
+pub fn same_bytes(a: &[u8], b: &[u8]) -> bool
+    ensures { result ≡ same a.now b.now }
+{
+    a == b
 }

@@ -17,34 +17,13 @@ pub struct FlatStore<'a, T> {
     used: u32,
 }
 
-/// Leaves nothing in any slot.
-fn wipe<T: Blank + Copy>(slots: &mut [Slot<T>])
-    ensures { slots.new ≡ spares slots.old }
-{
-    for i in 0..slots.len() {
-        slots[i] = Slot::Spare;
-    }
-}
-
-/// The length of a handle's list, where it has one.
-fn span<T: Blank + Copy>(slots: &[Slot<T>], used: u32, handle: u32) -> Option<u32>
-    ensures { result ≡ span_of slots.now used handle }
-{
-    if handle == 0 {
-        return Some(0);
-    }
-    if handle > used || handle as usize > slots.len() {
-        return None;
-    }
-    slots[handle as usize - 1].ending(handle)
-}
-
 /// Copies elements to slots further on.
 fn copy<T: Blank + Copy>(slots: &mut [Slot<T>], from: usize, to: usize, count: usize)
     requires { (from + count ≤ to) × (to + count ≤ length slots.old) }
     ensures before { (k : ℕ) → k < to → slice_index_or slots.new k Spare ≡ slice_index_or slots.old k Spare }
     ensures copied { (j : ℕ) → j < count → slice_index_or slots.new (to + j) Spare ≡ Element (element_of T.Blank.unwritten (slice_index_or slots.old (from + j) Spare)) }
 {
+    // Kept: source and target lie in one slice, and a slot without an element is copied as the blank.
     for j in 0..count {
         slots[to + j] = Slot::Element(slots[from + j].element());
     }
@@ -80,38 +59,6 @@ fn first_slot(handle: u32, length: u32) -> u32
     handle.saturating_sub(length + 1)
 }
 
-/// Puts an element before the list of a handle, in the first slots behind the used ones.
-///
-/// What one list more does to the others is shown here, whatever wrote it.
-fn push<T: Blank + Copy>(slots: &mut [Slot<T>], used: u32, handle: u32, length: u32, element: T)
-    requires known { span_of slots.old used handle ≡ Some length }
-    requires room { cost_of length ≤ room_of slots.old used }
-    ensures { Pushed T.Blank.unwritten slots.old slots.new used handle length element }
-{
-    place(
-        slots,
-        used as usize,
-        first_slot(handle, length) as usize,
-        length,
-        element,
-    );
-}
-
-/// The element at an index below the length of a handle's list.
-fn element_at<T: Blank + Copy>(
-    slots: &[Slot<T>],
-    used: u32,
-    handle: u32,
-    length: u32,
-    index: u32,
-) -> T
-    requires known { span_of slots.now used handle ≡ Some length }
-    requires within { index < length }
-    ensures { Looked (lists_of T.Blank.unwritten slots.now used) handle index (Ok result) }
-{
-    read(slots, element_slot(handle, length, index) as usize)
-}
-
 /// Where the element at an index of a handle's list stands.
 fn element_slot(handle: u32, length: u32, index: u32) -> u32
     requires { (length < handle) × (index < length) }
@@ -120,21 +67,13 @@ fn element_slot(handle: u32, length: u32, index: u32) -> u32
     handle - length - 1 + index
 }
 
-/// The element in a slot.
-fn read<T: Blank + Copy>(slots: &[Slot<T>], place: usize) -> T
-    requires { place < length slots.now }
-    ensures { result ≡ element_of T.Blank.unwritten (slice_index_or slots.now place Spare) }
-{
-    slots[place].element()
-}
-
 impl<'a, T: Blank + Copy> FlatStore<'a, T> {
     /// A store over these slots, as after `clear`.
     pub fn new(slots: &'a mut [Slot<T>]) -> FlatStore<'a, T>
         ensures cleared { New T.Blank.unwritten result.slots.now result.used }
         ensures wiped { result.slots.now ≡ spares slots.old }
     {
-        wipe(slots);
+        slots.fill_with(|| Slot::Spare);
         FlatStore { slots, used: 0 }
     }
 
@@ -143,7 +82,40 @@ impl<'a, T: Blank + Copy> FlatStore<'a, T> {
         ensures span { result ≡ span_of self.now.slots.now self.now.used handle }
         ensures list { Spanned (lists_of T.Blank.unwritten self.now.slots.now self.now.used handle) result }
     {
-        span(self.slots, self.used, handle)
+        if handle == 0 {
+            return Some(0);
+        }
+        if handle > self.used || handle as usize > self.slots.len() {
+            return None;
+        }
+        self.slots[handle as usize - 1].ending(handle)
+    }
+
+    /// The element at an index below the length of a handle's list.
+    fn element_at(&self, handle: u32, length: u32, index: u32) -> T
+        requires known { span_of self.now.slots.now self.now.used handle ≡ Some length }
+        requires within { index < length }
+        ensures { Looked (lists_of T.Blank.unwritten self.now.slots.now self.now.used) handle index (Ok result) }
+    {
+        self.slots[element_slot(handle, length, index) as usize].element()
+    }
+
+    /// Puts an element before the list of a handle, in the first slots behind the used ones.
+    fn push(&mut self, handle: u32, length: u32, element: T)
+        requires known { span_of self.old.slots.now self.old.used handle ≡ Some length }
+        requires room { cost_of length ≤ room_of self.old.slots.now self.old.used }
+        ensures pushed { Pushed T.Blank.unwritten self.old.slots.now self.new.slots.now self.old.used handle length element }
+        ensures used { self.new.used ≡ self.old.used + cost_of length }
+        ensures whole { whole_of self.new.slots.now ≡ whole_of self.old.slots.now }
+    {
+        place(
+            self.slots,
+            self.used as usize,
+            first_slot(handle, length) as usize,
+            length,
+            element,
+        );
+        self.used += length + 2;
     }
 
     fn room(&self) -> u32
@@ -171,7 +143,7 @@ impl<'a, T: Blank + Copy> Store for FlatStore<'a, T> {
     fn sound(&self) {}
 
     fn clear(&mut self) {
-        wipe(self.slots);
+        self.slots.fill_with(|| Slot::Spare);
         self.used = 0;
     }
 
@@ -182,9 +154,7 @@ impl<'a, T: Blank + Copy> Store for FlatStore<'a, T> {
         if length as usize + 2 > self.room() as usize {
             return Err(StoreFault::NoRoom);
         }
-        let used = self.used;
-        push(self.slots, used, handle, length, elem);
-        self.used = used + (length + 2);
+        self.push(handle, length, elem);
         Ok(self.used)
     }
 
@@ -195,7 +165,7 @@ impl<'a, T: Blank + Copy> Store for FlatStore<'a, T> {
         if index >= length {
             return Err(StoreFault::Beyond { length });
         }
-        Ok(element_at(self.slots, self.used, handle, length, index))
+        Ok(self.element_at(handle, length, index))
     }
 
     fn free(&self) -> u32 {

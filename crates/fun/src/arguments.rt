@@ -1,8 +1,10 @@
 //! What the words of a call ask for.
 use crate::failure::Failure;
 use crate::usage::SEE_HELP;
-use messages::origin::{MOST_RECORD, Origin};
-use std::alloc::Global;
+use messages::rule_text::Origin;
+use std::alloc::{AllocFailed, Global};
+use std::fmt::Display;
+use syntax::limits::MOST_RECORD;
 
 /// A text to compile.
 #[derive(Drop)]
@@ -23,148 +25,121 @@ pub enum Command<'a> {
     CheckRecord(&'a str),
 }
 
+/// A word behind a command.
+#[derive(Clone, Copy)]
+enum Word<'a> {
+    Help,
+    Option(&'a str),
+    /// A file or a name.
+    Plain(&'a str),
+}
+
+impl<'a> From<&'a str> for Word<'a> {
+    fn from(word: &'a str) -> Word<'a> {
+        match word {
+            "--help" | "-h" => Word::Help,
+            "-" => Word::Plain(word),
+            _ if word.starts_with('-') => Word::Option(word),
+            _ => Word::Plain(word),
+        }
+    }
+}
+
 /// An option whose value is the next word.
 #[derive(Clone, Copy)]
 enum Awaited {
-    Nothing,
     Out,
     Room,
 }
 
+/// What a command works on: a file, and behind it the names of the readings.
+#[derive(Drop)]
+struct Given<'a> {
+    file: Option<&'a str>,
+    names: Vec<&'a str>,
+}
+
+impl<'a> Given<'a> {
+    fn add(&mut self, word: &'a str) -> Result<(), AllocFailed<&'a str>> {
+        match self.file {
+            None => self.file = Some(word),
+            Some(_) => self.names.push(word)?,
+        }
+        Ok(())
+    }
+}
+
 /// Reads the words of a call, the program's own name left out.
 pub(crate) fn read_call<'a>(heap: Global, words: &'a [String]) -> Result<Command<'a>, Failure> {
-    let Some(first) = words.first() else {
+    let Some((first, words)) = words.split_first() else {
         return Ok(Command::Help);
     };
     match first.as_str() {
         "help" | "--help" | "-h" => Ok(Command::Help),
-        "explain" => explain(heap, &words[1..]),
-        "compile" => compile(heap, &words[1..]),
-        "check" => check(heap, &words[1..]),
-        other => wrong(
+        "explain" => explain(heap, words),
+        "compile" => compile(heap, words),
+        "check" => check(heap, words),
+        other => Err(wrong(
             heap,
-            format!(in heap;
-                "there is no command `{other}`: it is compile, check, explain or help"
-            )?.as_str(),
-        ),
+            format_args!("there is no command `{other}`: it is compile, check, explain or help"),
+        )),
     }
 }
 
 /// A wrong call.
-fn wrong<'a>(heap: Global, why: &str) -> Result<Command<'a>, Failure> {
-    Err(told(heap, why)?)
-}
-
-fn told(heap: Global, why: &str) -> Result<Failure, Failure> {
-    Ok(Failure::Told(format!(in heap; "error: {why}\n  = help: {SEE_HELP}\n")?))
+fn wrong(heap: Global, why: impl Display + Drop) -> Failure {
+    Failure::told(heap, &format_args!("error: {why}\n  = help: {SEE_HELP}\n"))
 }
 
 fn explain<'a>(heap: Global, words: &'a [String]) -> Result<Command<'a>, Failure> {
     match words {
-        [] => wrong(heap, "explain: the number of a refusal is missing"),
+        [] => Err(wrong(heap, "explain: the number of a refusal is missing")),
         [number] => Ok(Command::Explain(number.as_str())),
-        _ => wrong(heap, "explain: one number at a time"),
+        _ => Err(wrong(heap, "explain: one number at a time")),
     }
 }
 
 fn compile<'a>(heap: Global, words: &'a [String]) -> Result<Command<'a>, Failure> {
-    let mut file = None;
-    let mut names = Vec::new(heap);
+    let mut given = Given {
+        file: None,
+        names: Vec::new(heap),
+    };
     let mut out = None;
     let mut room = MOST_RECORD;
-    let mut awaited = Awaited::Nothing;
+    let mut awaited = None;
     for word in words {
         let word = word.as_str();
-        match awaited {
-            Awaited::Out => out = Some(word),
-            Awaited::Room => room = room_of(heap, word)?,
-            Awaited::Nothing => {
-                if word == "--help" || word == "-h" {
-                    return Ok(Command::Help);
-                }
-                if word.starts_with('-') && word != "-" {
-                    awaited = option(heap, word)?;
-                    continue;
-                }
-                if file.is_none() {
-                    file = Some(word);
-                } else {
-                    names.push(word)?;
-                }
-            }
+        match (awaited.take(), Word::from(word)) {
+            (Some(Awaited::Out), _) => out = Some(word),
+            (Some(Awaited::Room), _) => room = room_of(heap, word)?,
+            (None, Word::Help) => return Ok(Command::Help),
+            (None, Word::Option(option)) => awaited = Some(awaited_by(heap, option)?),
+            (None, Word::Plain(word)) => given.add(word)?,
         }
-        awaited = Awaited::Nothing;
     }
+    let Given { file, names } = given;
     match (file, awaited) {
-        (_, Awaited::Out) => wrong(heap, "compile: a file is missing behind --out"),
-        (_, Awaited::Room) => wrong(heap, "compile: a count of bytes is missing behind --room"),
-        (None, Awaited::Nothing) => wrong(
-            heap,
-            "compile: the file with the rule's text is missing",
-        ),
-        (Some(file), Awaited::Nothing) => {
+        (_, Some(Awaited::Out)) => Err(wrong(heap, "compile: a file is missing behind --out")),
+        (_, Some(Awaited::Room)) => {
+            Err(wrong(heap, "compile: a count of bytes is missing behind --room"))
+        }
+        (None, None) => Err(wrong(heap, "compile: the file with the rule's text is missing")),
+        (Some(file), None) => {
             let origin = Origin { file, names, room };
             Ok(Command::Compile(Request { origin, out }))
         }
     }
 }
 
-fn check<'a>(heap: Global, words: &'a [String]) -> Result<Command<'a>, Failure> {
-    let mut file = None;
-    let mut names = Vec::new(heap);
-    let mut record = false;
-    for word in words {
-        let word = word.as_str();
-        if word == "--help" || word == "-h" {
-            return Ok(Command::Help);
-        } else if word == "--record" {
-            record = true;
-        } else if word.starts_with('-') && word != "-" {
-            return Err(no_option(heap, word)?);
-        } else if file.is_none() {
-            file = Some(word);
-        } else {
-            names.push(word)?;
-        }
-    }
-    match (file, record) {
-        (None, false) => wrong(heap, "check: the file with the rule's text is missing"),
-        (None, true) => wrong(heap, "check: the file with the record is missing"),
-        (Some(file), false) => {
-            let room = MOST_RECORD;
-            Ok(Command::Check(Origin { file, names, room }))
-        }
-        (Some(file), true) => check_record(heap, file, names.as_slice()),
-    }
-}
-
-/// A word with a minus that `check` does not know.
-fn no_option(heap: Global, word: &str) -> Result<Failure, Failure> {
-    let why = format!(in heap; "check: there is no option `{word}`: it is --record")?;
-    told(heap, why.as_str())
-}
-
-fn check_record<'a>(heap: Global, file: &'a str, names: &[&str]) -> Result<Command<'a>, Failure> {
-    if names.is_empty() {
-        return Ok(Command::CheckRecord(file));
-    }
-    wrong(
-        heap,
-        "check: a record has no names in it, so --record takes one file and no NAME",
-    )
-}
-
 /// The option of `compile` that a word with a minus is.
-fn option(heap: Global, word: &str) -> Result<Awaited, Failure> {
-    match word {
+fn awaited_by(heap: Global, option: &str) -> Result<Awaited, Failure> {
+    match option {
         "--out" => Ok(Awaited::Out),
         "--room" => Ok(Awaited::Room),
-        _ => Err(told(
+        _ => Err(wrong(
             heap,
-            format!(in heap;
-                "compile: there is no option `{word}`: it is --out or --room"
-            )?.as_str(),
-        )?),
+            format_args!("compile: there is no option `{option}`: it is --out or --room"),
+        )),
     }
 }
 
@@ -172,9 +147,42 @@ fn option(heap: Global, word: &str) -> Result<Awaited, Failure> {
 fn room_of(heap: Global, word: &str) -> Result<usize, Failure> {
     match word.parse::<usize>() {
         Ok(room) => Ok(room.min(MOST_RECORD)),
-        Err(_) => Err(told(
+        Err(_) => Err(wrong(heap, format_args!("compile: `{word}` is no count of bytes"))),
+    }
+}
+
+fn check<'a>(heap: Global, words: &'a [String]) -> Result<Command<'a>, Failure> {
+    let mut given = Given {
+        file: None,
+        names: Vec::new(heap),
+    };
+    let mut record = false;
+    for word in words {
+        match Word::from(word.as_str()) {
+            Word::Help => return Ok(Command::Help),
+            Word::Option("--record") => record = true,
+            Word::Option(option) => {
+                return Err(wrong(
+                    heap,
+                    format_args!("check: there is no option `{option}`: it is --record"),
+                ));
+            }
+            Word::Plain(word) => given.add(word)?,
+        }
+    }
+    let Given { file, names } = given;
+    match (file, record) {
+        (None, false) => Err(wrong(heap, "check: the file with the rule's text is missing")),
+        (None, true) => Err(wrong(heap, "check: the file with the record is missing")),
+        (Some(file), false) => Ok(Command::Check(Origin {
+            file,
+            names,
+            room: MOST_RECORD,
+        })),
+        (Some(file), true) if names.is_empty() => Ok(Command::CheckRecord(file)),
+        (Some(_), true) => Err(wrong(
             heap,
-            format!(in heap; "compile: `{word}` is no count of bytes")?.as_str(),
-        )?),
+            "check: a record has no names in it, so --record takes one file and no NAME",
+        )),
     }
 }

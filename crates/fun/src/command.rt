@@ -22,25 +22,25 @@ pub(crate) fn run(rt: &HostRuntime) -> Result<String, Failure> {
 
 /// The words behind the program's own name.
 fn words(rt: &HostRuntime, heap: Global) -> Result<Vec<String>, Failure> {
-    let mut words = Vec::new(heap);
     match env::args(rt) {
-        Ok(all) => {
-            for word in all.skip(1) {
-                words.push(word)?;
-            }
-            Ok(words)
-        }
-        Err(error) => Err(Failure::Told(format!(in heap;
-            "error: cannot read the words of the call: {error}\n  = help: names and files are given as UTF-8\n"
-        )?)),
+        Ok(words) => Ok(words.skip(1).collect(heap)?),
+        Err(error) => Err(Failure::told(
+            heap,
+            &format_args!(
+                "error: cannot read the words of the call: {error}\n  = help: names and files are given as UTF-8\n"
+            ),
+        )),
     }
 }
 
 fn explain(heap: Global, number: &str) -> Result<String, Failure> {
     match explanation(number) {
         Some(text) => Ok(String::from_str(heap, text)?),
-        None => Err(Failure::Told(format!(in heap;
-            "error: there is no refusal `{number}`\n  = help: the refusals are {KNOWN}\n"
-        )?)),
+        None => Err(Failure::told(
+            heap,
+            &format_args!(
+                "error: there is no refusal `{number}`\n  = help: the refusals are {KNOWN}\n"
+            ),
+        )),
     }
 }

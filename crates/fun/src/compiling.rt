@@ -1,14 +1,41 @@
 //! The command `compile`, from the file to the record.
 use crate::arguments::Request;
 use crate::failure::Failure;
+use crate::source;
 use crate::source::RULE;
-use crate::{counting, source};
-use book::name::Book;
+use book::book::Book;
 use messages::names::refused;
-use messages::origin::Origin;
-use messages::refusal::show;
+use messages::rule_text::{Origin, RuleText};
 use std::alloc::Global;
 use std::fs;
+use verdicts::walk::Walk;
+
+/// A rule's text and the names that it may use, as a call asks for them.
+#[derive(Drop)]
+pub(crate) struct Fetched {
+    book: Book,
+    text: Vec<u8>,
+}
+
+impl Fetched {
+    pub(crate) fn from(
+        rt: &HostRuntime,
+        heap: Global,
+        origin: &Origin,
+    ) -> Result<Fetched, Failure> {
+        let book = book_of(heap, origin.names.as_slice())?;
+        let text = source::read(rt, origin.file, RULE)?;
+        Ok(Fetched { book, text })
+    }
+
+    pub(crate) fn rule<'a, 'n>(&'a self, origin: &'a Origin<'n>) -> RuleText<'a, 'n> {
+        RuleText {
+            text: self.text.as_slice(),
+            book: &self.book,
+            origin,
+        }
+    }
+}
 
 /// Compiles a text, and prints its record or writes it to a file.
 pub(crate) fn compile(
@@ -16,36 +43,25 @@ pub(crate) fn compile(
     heap: Global,
     request: &Request,
 ) -> Result<String, Failure> {
-    let origin = &request.origin;
-    let book = book_of(heap, origin.names.as_slice())?;
-    let text = source::read(rt, origin.file, RULE)?;
-    let record = record_of(heap, text.as_slice(), &book, origin)?;
+    let fetched = Fetched::from(rt, heap, &request.origin)?;
+    let record = record_of(heap, fetched.rule(&request.origin))?;
     written(rt, heap, request.out, record.as_slice())
 }
 
 /// The record of a text, or what is wrong with the text.
-pub(crate) fn record_of(
-    heap: Global,
-    text: &[u8],
-    book: &Book,
-    origin: &Origin,
-) -> Result<Vec<u8>, Failure> {
-    let mut record = vec![in heap; 0u8; origin.room]?;
-    match text::compile::compile(text, book, &mut record) {
-        Ok(count) => {
-            record.truncate(count);
-            Ok(record)
-        }
-        Err(fault) => Err(Failure::Told(show(heap, &fault, text, book, origin)?)),
+pub(crate) fn record_of(heap: Global, rule: RuleText) -> Result<Vec<u8>, Failure> {
+    match rule.record(heap, rule.origin.room)? {
+        Ok(record) => Ok(record),
+        Err(fault) => Err(Failure::told(heap, &rule.refusal(heap, fault)?)),
     }
 }
 
 /// Puts the names into a book, in their order.
-pub(crate) fn book_of(heap: Global, names: &[&str]) -> Result<Book, Failure> {
+fn book_of(heap: Global, names: &[&str]) -> Result<Book, Failure> {
     let mut book = Book::new();
     for (at, name) in names.iter().enumerate() {
         if let Err(fault) = book.add(name.as_bytes()) {
-            return Err(Failure::Told(refused(heap, fault, name, at)?));
+            return Err(Failure::told(heap, &refused(heap, fault, name, at)?));
         }
     }
     Ok(book)
@@ -59,15 +75,16 @@ fn written(
     record: &[u8],
 ) -> Result<String, Failure> {
     let bytes = record.len();
-    let nodes = counting::count(record);
+    let nodes = Walk::over(record).count();
     let Some(file) = out else {
         let shown = hexadecimal::show(heap, record)?;
         return Ok(format!(in heap; "{shown}\n{bytes} bytes, {nodes} nodes\n")?);
     };
     match fs::write(rt, file, record) {
         Ok(()) => Ok(format!(in heap; "{file}: {bytes} bytes, {nodes} nodes\n")?),
-        Err(error) => Err(Failure::Told(format!(in heap;
-            "error: cannot write {file}: {error}\n"
-        )?)),
+        Err(error) => Err(Failure::told(
+            heap,
+            &format_args!("error: cannot write {file}: {error}\n"),
+        )),
     }
 }

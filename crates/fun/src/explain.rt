@@ -4,34 +4,38 @@ use crate::accept_explained;
 /// The numbers that can be explained, in words.
 pub const KNOWN: &str = "1 to 12, 31 to 33, 51 to 55 and 57 to 59";
 
+/// What each refusal means, its number first.
+const EXPLANATIONS: [&str; 23] = [
+    accept_explained::LENGTH,
+    accept_explained::VERSION,
+    accept_explained::READINGS,
+    accept_explained::NO_NODE,
+    accept_explained::TOO_MANY_NODES,
+    accept_explained::UNKNOWN_KIND,
+    accept_explained::CUT_SHORT,
+    accept_explained::UNBOUND,
+    accept_explained::SPARE,
+    accept_explained::SHORT_TABLE,
+    accept_explained::NO_TYPE,
+    accept_explained::SHORT_BUFFER,
+    NO_LIST,
+    NO_FREE_ROOM,
+    NO_ELEMENT,
+    TOO_LONG,
+    NO_TOKEN,
+    NO_NAME,
+    OUT_OF_RANGE,
+    UNEXPECTED,
+    UNKNOWN,
+    TOO_MANY_NODES,
+    NO_ROOM,
+];
+
 /// What a refusal means, with an example; nothing where there is no such refusal.
 pub(crate) fn explanation(number: &str) -> Option<&'static str> {
-    match number {
-        "1" => Some(accept_explained::LENGTH),
-        "2" => Some(accept_explained::VERSION),
-        "3" => Some(accept_explained::READINGS),
-        "4" => Some(accept_explained::NO_NODE),
-        "5" => Some(accept_explained::TOO_MANY_NODES),
-        "6" => Some(accept_explained::UNKNOWN_KIND),
-        "7" => Some(accept_explained::CUT_SHORT),
-        "8" => Some(accept_explained::UNBOUND),
-        "9" => Some(accept_explained::SPARE),
-        "10" => Some(accept_explained::SHORT_TABLE),
-        "11" => Some(accept_explained::NO_TYPE),
-        "12" => Some(accept_explained::SHORT_BUFFER),
-        "31" => Some(NO_LIST),
-        "32" => Some(NO_FREE_ROOM),
-        "33" => Some(NO_ELEMENT),
-        "51" => Some(TOO_LONG),
-        "52" => Some(NO_TOKEN),
-        "53" => Some(NO_NAME),
-        "54" => Some(OUT_OF_RANGE),
-        "55" => Some(UNEXPECTED),
-        "57" => Some(UNKNOWN),
-        "58" => Some(TOO_MANY_NODES),
-        "59" => Some(NO_ROOM),
-        _ => None,
-    }
+    EXPLANATIONS.iter().copied().find(|text| text
+        .split_once(": ")
+        .is_some_and(|(known, _)| known == number))
 }
 
 const NO_LIST: &str = "\

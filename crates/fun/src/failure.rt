@@ -1,35 +1,25 @@
 //! Why the program ends without an answer.
-use std::alloc::{AllocError, AllocFailed};
-use std::process::ExitCode;
+use std::alloc::{AllocError, Global};
+use std::fmt::Display;
+use thiserror::Error;
 
-#[derive(Drop)]
+// Kept: an `anyhow::Error` has room for 120 bytes of a message, and those told here have several lines.
+#[derive(Debug, Drop, Error)]
 pub enum Failure {
     /// There was no memory to answer in.
-    NoMemory,
-    /// A message for whoever called, ready to print.
+    #[error("error: there is not enough memory\n")]
+    NoMemory(#[from(alloc)] AllocError),
+    /// A message for whoever called.
+    #[error("{0}")]
     Told(String),
 }
 
-impl From<AllocError> for Failure {
-    fn from(_: AllocError) -> Failure {
-        Failure::NoMemory
-    }
-}
-
-impl<T: Drop> From<AllocFailed<T>> for Failure {
-    fn from(_: AllocFailed<T>) -> Failure {
-        Failure::NoMemory
-    }
-}
-
 impl Failure {
-    /// Prints the message on standard error, and answers the status 1. Where even printing fails there is nobody left
-    /// to tell.
-    pub(crate) fn tell(&self, rt: &HostRuntime) -> ExitCode {
-        let _ = match self {
-            Failure::NoMemory => eprintln!(rt; "error: there is not enough memory"),
-            Failure::Told(message) => eprint!(rt; "{message}"),
-        };
-        ExitCode::FAILURE
+    /// The failure that a message tells; that there is no memory where it cannot be kept.
+    pub(crate) fn told(heap: Global, message: &impl Display) -> Failure {
+        match message.to_string(heap) {
+            Ok(message) => Failure::Told(message),
+            Err(error) => Failure::NoMemory(error),
+        }
     }
 }

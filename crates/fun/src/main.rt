@@ -10,10 +10,8 @@ mod arguments;
 mod checking;
 mod command;
 mod compiling;
-mod counting;
 mod explain;
 mod failure;
-mod figures;
 mod record_file;
 mod source;
 mod usage;
@@ -29,6 +27,10 @@ fn main(rt: HostRuntime) -> ExitCode {
                 ExitCode::FAILURE
             }
         },
-        Err(failure) => failure.tell(&rt),
+        Err(failure) => {
+            // Where even that cannot be printed there is nobody left to tell.
+            let _ = eprint!(rt; "{failure}");
+            ExitCode::FAILURE
+        }
     }
 }

@@ -2,9 +2,8 @@
 use crate::failure::Failure;
 use crate::source;
 use crate::source::RECORD;
-use messages::origin::{MOST_READ, shown_name};
-use messages::tokens::is_blank;
-use std::alloc::{AllocError, Global};
+use messages::file::{MOST_READ, shown_name};
+use std::alloc::Global;
 use verdicts::of_record::{Form, RecordFile};
 
 /// A record as it was found in a file.
@@ -23,31 +22,16 @@ pub(crate) fn fetch<'a>(
 ) -> Result<Found<'a>, Failure> {
     let bytes = source::read(rt, file, RECORD)?;
     let cut = bytes.len() >= MOST_READ;
-    let file = shown_name(file);
-    match hexadecimal::read(heap, without_blanks(heap, bytes.as_slice())?.as_slice())? {
-        Some(record) if !record.is_empty() => {
-            let form = Form::Hexadecimal;
-            Ok(Found {
-                bytes: record,
-                from: RecordFile { file, form, cut },
-            })
-        }
-        _ => {
-            let form = Form::Bytes;
-            Ok(Found {
-                bytes,
-                from: RecordFile { file, form, cut },
-            })
-        }
-    }
-}
-
-fn without_blanks(heap: Global, bytes: &[u8]) -> Result<Vec<u8>, AllocError> {
-    let mut rest = Vec::new(heap);
-    for byte in bytes {
-        if !is_blank(*byte) {
-            rest.push(*byte)?;
-        }
-    }
-    Ok(rest)
+    let digits: Vec<u8> = bytes
+        .iter()
+        .copied()
+        .filter(|byte| !matches!(byte, b' ' | b'\t' | b'\n' | b'\r'))
+        .collect(heap)?;
+    let (form, bytes) = match hexadecimal::read(heap, digits.as_slice())? {
+        Some(record) if !record.is_empty() => (Form::Hexadecimal, record),
+        _ => (Form::Bytes, bytes),
+    };
+    let name = shown_name(file);
+    let from = RecordFile { name, form, cut };
+    Ok(Found { bytes, from })
 }

@@ -1,6 +1,6 @@
 //! Fetching a file.
 use crate::failure::Failure;
-use messages::origin::{MOST_READ, shown_name};
+use messages::file::{MOST_READ, shown_name};
 use std::alloc::Global;
 use std::fs::File;
 use std::io;
@@ -14,15 +14,15 @@ pub const RECORD: &str = "the record";
 /// The bytes of a file, or of standard input where its name is `-`.
 pub(crate) fn read(rt: &HostRuntime, file: &str, wanted: &str) -> Result<Vec<u8>, Failure> {
     let heap = rt.alloc();
-    match bytes(rt, heap, file) {
-        Ok(bytes) => Ok(bytes),
-        Err(error) => {
-            let name = shown_name(file);
-            Err(Failure::Told(format!(in heap;
+    bytes(rt, heap, file).map_err(|error| {
+        let name = shown_name(file);
+        Failure::told(
+            heap,
+            &format_args!(
                 "error: cannot read {name}: {error}\n  = help: give a file with {wanted}, or - for standard input\n"
-            )?))
-        }
-    }
+            ),
+        )
+    })
 }
 
 fn bytes(rt: &HostRuntime, heap: Global, file: &str) -> io::Result<Vec<u8>> {

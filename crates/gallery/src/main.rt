@@ -2,71 +2,63 @@
 //! check compares it with what is printed.
 #![tactic(auto)]
 
-use book::name::Book;
+use book::book::Book;
 use messages::names::refused;
-use messages::origin::{MOST_RECORD, Origin};
-use messages::refusal::show;
+use messages::rule_text::{Origin, RuleText};
 use std::io;
-use text::compile::compile;
+use syntax::limits::MOST_RECORD;
+
+/// Texts that break at a token.
+const TOKENS: [&[u8]; 6] = [
+    b"coil - 5",
+    b"if coil < 80 then 1 else 0",
+    b"coil + \xc3\xa9t\xc3\xa9",
+    b"coil + \xff\x01\x1b[2J",
+    b"coil + -2147483649",
+    b"let n = n + 1 in n",
+];
+
+/// Texts that break the grammar.
+const SENTENCES: [&[u8]; 9] = [
+    b"",
+    b"let a = 1 in\n  1 + fun x -> x\n",
+    b"1 <= coil <= 3",
+    b"(coil + 1",
+    b"coil + 1)",
+    b"fun x y -> x",
+    b"let x coil",
+    b"if coil then 1",
+    b"1 +\r\n\r\n",
+];
+
+/// Lines that are hard to show.
+const LINES: [&[u8]; 3] = [
+    b"\n\n\n\n\n\n\n\n\n\tcoil\t+ )\r\n1",
+    b"coil + coil + coil + coil + coil + coil + coil + coil + cole + coil + coil + coil + coil",
+    b"coil a_name_of_many_letters_a_name_of_many_letters_a_name_of_many_letters_a_name_of_many",
+];
+
+/// Names, each behind as many others as its place says.
+const NAMES: [&str; 6] = ["coil", "coil", "fun", "1st", "fan-speed", ""];
 
 fn main(rt: HostRuntime) -> io::Result<()> {
-    bytes(&rt)?;
-    grammar(&rt)?;
-    layout(&rt)?;
+    for text in TOKENS.iter().chain(&SENTENCES).chain(&LINES) {
+        text_refused(&rt, text, MOST_RECORD)?;
+    }
     limits(&rt)?;
-    for (at, name) in ["coil", "coil", "fun", "1st", "fan-speed", ""]
-        .iter()
-        .enumerate()
-    {
+    for (at, name) in NAMES.iter().enumerate() {
         name_refused(&rt, name, at)?;
     }
     name_refused(&rt, "a_name_that_is_longer_than_32_bytes", 0)?;
     name_refused(&rt, "ninth", 8)
 }
 
-/// Texts that break at a token.
-fn bytes(rt: &HostRuntime) -> io::Result<()> {
-    text_refused(rt, b"coil - 5", MOST_RECORD)?;
-    text_refused(rt, b"if coil < 80 then 1 else 0", MOST_RECORD)?;
-    text_refused(rt, b"coil + \xc3\xa9t\xc3\xa9", MOST_RECORD)?;
-    text_refused(rt, b"coil + \xff\x01\x1b[2J", MOST_RECORD)?;
-    text_refused(rt, b"coil + -2147483649", MOST_RECORD)?;
-    text_refused(rt, b"let n = n + 1 in n", MOST_RECORD)
-}
-
-/// Texts that break the grammar.
-fn grammar(rt: &HostRuntime) -> io::Result<()> {
-    text_refused(rt, b"", MOST_RECORD)?;
-    text_refused(rt, b"let a = 1 in\n  1 + fun x -> x\n", MOST_RECORD)?;
-    text_refused(rt, b"1 <= coil <= 3", MOST_RECORD)?;
-    text_refused(rt, b"(coil + 1", MOST_RECORD)?;
-    text_refused(rt, b"coil + 1)", MOST_RECORD)?;
-    text_refused(rt, b"fun x y -> x", MOST_RECORD)?;
-    text_refused(rt, b"let x coil", MOST_RECORD)?;
-    text_refused(rt, b"if coil then 1", MOST_RECORD)?;
-    text_refused(rt, b"1 +\r\n\r\n", MOST_RECORD)
-}
-
-/// Lines that are hard to show.
-fn layout(rt: &HostRuntime) -> io::Result<()> {
-    text_refused(rt, b"\n\n\n\n\n\n\n\n\n\tcoil\t+ )\r\n1", MOST_RECORD)?;
-    let far =
-        b"coil + coil + coil + coil + coil + coil + coil + coil + cole + coil + coil + coil + coil";
-    text_refused(rt, far, MOST_RECORD)?;
-    let word =
-        b"coil a_name_of_many_letters_a_name_of_many_letters_a_name_of_many_letters_a_name_of_many";
-    text_refused(rt, word, MOST_RECORD)
-}
-
 /// Texts that are refused as a whole.
 fn limits(rt: &HostRuntime) -> io::Result<()> {
     text_refused(rt, &[b' '; 4097], MOST_RECORD)?;
     text_refused(rt, &[b'1'; 4096], MOST_RECORD)?;
-    let mut sum = vec![in rt.alloc(); b'1']?;
-    for _ in 0..513 {
-        sum.extend_from_slice(b"+1")?;
-    }
-    text_refused(rt, sum.as_slice(), MOST_RECORD)?;
+    let sum = format!(in rt.alloc(); "1{}", "+1".repeat(rt.alloc(), 513)?)?;
+    text_refused(rt, sum.as_bytes(), MOST_RECORD)?;
     text_refused(rt, b"if 80 <= coil then 1 else 0", 23)
 }
 
@@ -81,28 +73,25 @@ fn text_refused(rt: &HostRuntime, text: &[u8], room: usize) -> io::Result<()> {
         names,
         room,
     };
-    let mut record = vec![in heap; 0u8; room]?;
-    match compile(text, &book, &mut record) {
-        Ok(count) => println!(rt; "{count} bytes"),
-        Err(fault) => {
-            let message = show(heap, &fault, text, &book, &origin)?;
-            println!(rt; "{message}")
-        }
+    let rule = RuleText {
+        text,
+        book: &book,
+        origin: &origin,
+    };
+    match rule.record(heap, room)? {
+        Ok(record) => println!(rt; "{} bytes", record.len()),
+        Err(fault) => println!(rt; "{}", rule.refusal(heap, fault)?),
     }
 }
 
 /// Prints the message for a name that stands behind `at` others.
 fn name_refused(rt: &HostRuntime, name: &str, at: usize) -> io::Result<()> {
-    let heap = rt.alloc();
     let mut book = Book::new();
     for earlier in ["coil", "b", "c", "d", "e", "f", "g", "h"].iter().take(at) {
         let _ = book.add(earlier.as_bytes());
     }
     match book.add(name.as_bytes()) {
         Ok(()) => println!(rt; "`{name}` is taken\n"),
-        Err(fault) => {
-            let message = refused(heap, fault, name, at)?;
-            println!(rt; "{message}")
-        }
+        Err(fault) => println!(rt; "{}", refused(rt.alloc(), fault, name, at)?),
     }
 }

@@ -3,15 +3,15 @@
 //! Bytes go in and text comes out, or the other way round. Written in lower case, read in either.
 #![tactic(auto)]
 
+ghost use Rattle.std.specs.Prelude.{◌≡◌, ◌<◌, ◌≤◌, IfSome};
+
 use std::alloc::{AllocError, Global};
 
 /// The digit of a number below 16.
-fn digit(half: u8) -> char {
-    match half {
-        0..=9 => (b'0' + half) as char,
-        10..=15 => (b'a' + (half - 10)) as char,
-        _ => '?',
-    }
+fn digit(half: u8) -> char
+    ensures { 16 ≤ half → result ≡ 63 }
+{
+    char::from_digit(u32::from(half), 16).unwrap_or('?')
 }
 
 /// Two digits for each byte.
@@ -25,30 +25,30 @@ pub fn show(heap: Global, bytes: &[u8]) -> Result<String, AllocError> {
 }
 
 /// The number below 16 that a digit stands for.
-fn half(digit: u8) -> Option<u8> {
-    match digit {
-        b'0'..=b'9' => Some(digit - b'0'),
-        b'a'..=b'f' => Some(digit - b'a' + 10),
-        b'A'..=b'F' => Some(digit - b'A' + 10),
-        _ => None,
-    }
+fn half(digit: u8) -> Option<u32>
+    ensures { IfSome result (λ half. half < 16) }
+{
+    (digit as char).to_digit(16)
+}
+
+/// The byte that two digits stand for.
+fn byte_of(pair: &[u8]) -> Option<u8> {
+    let [high, low] = pair else {
+        return None;
+    };
+    let high = half(*high)?;
+    let low = half(*low)?;
+    Some((16 * high + low) as u8)
 }
 
 /// The bytes that digits stand for; nothing where there is another character or a single digit.
 pub fn read(heap: Global, digits: &[u8]) -> Result<Option<Vec<u8>>, AllocError> {
     let mut bytes = Vec::new(heap);
-    let mut first = None;
-    for digit in digits {
-        let Some(next) = half(*digit) else {
+    for pair in digits.chunks(2) {
+        let Some(byte) = byte_of(pair) else {
             return Ok(None);
         };
-        match first {
-            None => first = Some(next),
-            Some(high) => {
-                bytes.push(16 * (high % 16) + next % 16)?;
-                first = None;
-            }
-        }
+        bytes.push(byte)?;
     }
-    Ok(if first.is_none() { Some(bytes) } else { None })
+    Ok(Some(bytes))
 }

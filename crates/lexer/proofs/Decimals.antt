@@ -1,10 +1,7 @@
 -- What digits come to, up to a limit. Assumes nothing.
-use Rattle.std.proofs.Common.{◌≡◌, ℕ, zero, suc, ◌+◌, ◌-◌, ◌*◌, ◌<◌, ◌≤◌, min, List, [], ◌∷◌, length, get_or, drop, ℤ, pos, negsuc, neg_ℤ, Some, None, Option, sym, ap, subst, ⊎_elim, true≢false, arith}
+use Rattle.std.proofs.Common.{◌≡◌, ℕ, ◌+◌, ◌-◌, ◌*◌, ◌<◌, ◌≤◌, min, List, [], ◌∷◌, ap, ⊎_elim, arith}
 use Rattle.std.proofs.str.Laws.{order}
 use Rattle.grammar.specs.Spelling.{decimal}
-use Rattle.std.proofs.lemmas.Bool.Decides.{nat_tests}
-use Rattle.lexer.specs.Amounts.{Amount}
-use Rattle.lexer.specs.Shown.{value}
 
 -- more before the digits is more in all
 pub decimal-≤ : (cs : List ℕ) (m n : ℕ) → m ≤ n → decimal m cs ≤ decimal n cs
@@ -27,19 +24,3 @@ decimal_min cs n a =
 
 past : (d : ℕ) → d < 2147483649 → min d 2147483649 ≡ d
 past d h = omega arith
-
-pub amount_capped : (d : ℕ) (r : Option ℤ) → Amount (neg_ℤ (pos (min d 2147483649))) r → Amount (neg_ℤ (pos d)) r
-amount_capped d r h =
-    ⊎_elim
-    (λ (lt : d < 2147483649). subst (λ n. Amount (neg_ℤ (pos n)) r) (past d lt) h)
-    (λ (le : 2147483649 ≤ d). let e : min d 2147483649 ≡ 2147483649 = omega arith in far d r le (subst (λ n. Amount (neg_ℤ (pos n)) r) e h))
-    (order d 2147483649)
-  where
-    far : (d : ℕ) (r : Option ℤ) → 2147483649 ≤ d → Amount (negsuc 2147483648) r → Amount (neg_ℤ (pos d)) r
-    far zero r le h = absurd (omega arith)
-    far (suc d) (Some k) le h = absurd (true≢false (sym h.0))
-    far (suc d) None le h = grind (arith, nat_tests)
-
-pub value_of_minus : (w : List ℕ) → 0 < length w → get_or w 0 0 ≡ 45 → value w ≡ neg_ℤ (pos (decimal 0 (drop 1 w)))
-value_of_minus [] h e = absurd (omega arith)
-value_of_minus (c ∷ cs) h e = rw e

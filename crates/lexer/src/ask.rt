@@ -28,10 +28,7 @@ impl Token<'_> {
     pub fn is(&self, mark: Mark) -> bool
         ensures { result ≡ Rattle.grammar.specs.Token.is mark (shown self.now) }
     {
-        match self {
-            Token::Mark(own) => *own == mark,
-            _ => false,
-        }
+        matches!(self, Token::Mark(own) if *own == mark)
     }
 
     /// Whether a sum goes on with it.

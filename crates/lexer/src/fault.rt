@@ -1,7 +1,7 @@
 //! What the lexer refuses.
 
 /// Why there is no next token.
-#[derive(Clone, Copy, Debug)]
+#[derive(Clone, Copy, PartialEq, Eq, Debug)]
 pub enum LexFault {
     /// No token begins at this place: refusal 52.
     NoToken(usize),

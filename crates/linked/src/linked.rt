@@ -1,5 +1,5 @@
 //! The store over lent cells.
-ghost use Rattle.std.specs.Prelude.{◌≡◌, ◌<◌, ◌≤◌, min, [], length, set, nat_le};
+ghost use Rattle.std.specs.Prelude.{◌≡◌, ◌+◌, ◌≤◌, min, [], length, nat_le};
 ghost use Rattle.store.specs.Lists.{Found};
 ghost use Rattle.linked.specs.Walk.{walk, blanks, lists_of, whole_of, room_of, New, Pushed};
 
@@ -16,41 +16,13 @@ pub struct LinkedStore<'a, T> {
     made: u32,
 }
 
-/// Writes the blank into every cell.
-fn wipe<T: Blank + Copy>(cells: &mut [Cell<T>])
-    ensures { cells.new ≡ blanks T.Blank.unwritten cells.old }
-{
-    for i in 0..cells.len() {
-        cells[i] = Cell::blank();
-    }
-}
-
-/// Writes one cell.
-fn write<T: Copy>(cells: &mut [Cell<T>], place: usize, element: T, below: u32)
-    requires { place < length cells.old }
-    ensures { cells.new ≡ set cells.old place (record { element = element; below = below }) }
-{
-    cells[place] = Cell { element, below };
-}
-
-/// Puts an element before the list of a handle, in the first cell behind the `made` ones.
-///
-/// What one cell more does to the lists is shown here, whatever wrote it.
-fn push<T: Blank + Copy>(cells: &mut [Cell<T>], made: u32, handle: u32, element: T)
-    requires known { handle ≤ made }
-    requires room { 1 ≤ room_of cells.old made }
-    ensures { Pushed T.Blank.unwritten cells.old cells.new made handle element }
-{
-    write(cells, made as usize, element, handle);
-}
-
 impl<'a, T: Blank + Copy> LinkedStore<'a, T> {
     /// A store over these cells, as after `clear`.
     pub fn new(cells: &'a mut [Cell<T>]) -> LinkedStore<'a, T>
         ensures cleared { New T.Blank.unwritten result.cells.now result.made }
         ensures wiped { result.cells.now ≡ blanks T.Blank.unwritten cells.old }
     {
-        wipe(cells);
+        cells.fill_with(|| Cell::blank());
         LinkedStore { cells, made: 0 }
     }
 
@@ -64,6 +36,19 @@ impl<'a, T: Blank + Copy> LinkedStore<'a, T> {
         ensures { result ≡ room_of self.now.cells.now self.now.made }
     {
         counted(self.cells.len()).saturating_sub(self.made)
+    }
+
+    /// Puts an element before the list of a handle, in the first cell behind the `made` ones.
+    fn push(&mut self, handle: u32, element: T)
+        requires known { handle ≤ self.old.made }
+        requires room { 1 ≤ room_of self.old.cells.now self.old.made }
+        ensures pushed { Pushed T.Blank.unwritten self.old.cells.now self.new.cells.now self.old.made handle element }
+        ensures made { self.new.made ≡ self.old.made + 1 }
+        ensures long { length self.new.cells.now ≡ length self.old.cells.now }
+    {
+        let below = handle;
+        self.cells[self.made as usize] = Cell { element, below };
+        self.made += 1;
     }
 }
 
@@ -85,7 +70,7 @@ impl<'a, T: Blank + Copy> Store for LinkedStore<'a, T> {
     fn sound(&self) {}
 
     fn clear(&mut self) {
-        wipe(self.cells);
+        self.cells.fill_with(|| Cell::blank());
         self.made = 0;
     }
 
@@ -96,9 +81,7 @@ impl<'a, T: Blank + Copy> Store for LinkedStore<'a, T> {
         if self.room() < 1 {
             return Err(StoreFault::NoRoom);
         }
-        let made = self.made;
-        push(self.cells, made, handle, elem);
-        self.made = made + 1;
+        self.push(handle, elem);
         Ok(self.made)
     }
 
@@ -121,6 +104,7 @@ fn find<T: Blank + Copy>(cells: &[Cell<T>], handle: u32, index: u32) -> Result<T
 {
     let mut at = handle;
     let mut passed = 0;
+    // Kept: the loop follows handles from cell to cell, and what it counts is the length that a refusal tells.
     while at > 0 {
         let cell = cells[at as usize - 1];
         if passed == index {

@@ -1,9 +1,12 @@
 //! The frame of a message: number and title above, what it is about, and the notes below.
-use crate::place::{Position, end_of_words, position_of};
+ghost use Rattle.std.specs.Prelude.{◌≡◌, IfOk};
+
+use crate::file::TextFile;
 use crate::reason::Reason;
-use crate::snippet::{Snippet, draw};
-use crate::tokens::part;
+use crate::snippet::Snippet;
 use std::alloc::{AllocError, Global};
+use std::borrow::CowStr;
+use std::fmt;
 
 /// The bytes that a message points at, by the places of the first and of the byte behind the last.
 #[derive(Clone, Copy)]
@@ -12,63 +15,72 @@ pub struct Span {
     pub stop: usize,
 }
 
-/// A message about something that has no line to show.
-pub fn about(
-    heap: Global,
+/// What a message is about.
+#[derive(Drop)]
+enum Subject<'a> {
+    /// Something that has no line to show.
+    Whole(CowStr<'a>),
+    /// A part of a text.
+    Part(Snippet<'a>),
+}
+
+/// A refusal, by its number, as people read it.
+#[derive(Drop)]
+pub struct Message<'a> {
+    // Kept: each kind of fault tells its number, and a trait over them would add an impl for each and say no more.
     number: u8,
-    subject: &str,
-    reason: &Reason,
-) -> Result<String, AllocError> {
-    let title = reason.title.as_str();
-    let notes = reason.notes(heap, " ")?;
-    format!(in heap; "error[{number}]: {title}\n --> {subject}\n{notes}")
+    subject: Subject<'a>,
+    reason: Reason,
 }
 
-/// A message that shows the line where a part of a text begins, with carets under the part.
-pub fn pointing(
-    heap: Global,
-    number: u8,
-    file: &str,
-    text: &[u8],
-    span: Span,
-    reason: &Reason,
-) -> Result<String, AllocError> {
-    let spot = position_of(text, span.place);
-    let line = spot.line;
-    let column = spot.column;
-    let title = reason.title.as_str();
-    let margin = margin_of(heap, line)?;
-    let margin = margin.as_str();
-    let snippet = drawn(heap, text, spot, span)?;
-    let shown = snippet.shown.as_str();
-    let carets = snippet.carets.as_str();
-    let notes = reason.notes(heap, margin)?;
-    let head = format!(in heap;
-        "error[{number}]: {title}\n{margin}--> {file}:{line}:{column}\n{margin} |\n"
-    )?;
-    format!(in heap; "{head}{line} | {shown}\n{margin} | {carets}\n{margin} |\n{notes}")
-}
-
-/// As many blanks as the number of a line has digits.
-fn margin_of(heap: Global, line: usize) -> Result<String, AllocError> {
-    let mut margin = String::new(heap);
-    for _ in 0..format!(in heap; "{line}")?.len() {
-        margin.push(' ')?;
+impl<'a> Message<'a> {
+    /// A message about something that has no line to show.
+    pub fn about(number: u8, subject: CowStr<'a>, reason: Reason) -> Message<'a>
+        ensures number { result.number ≡ number }
+        ensures title { result.reason.title.now ≡ reason.title.now }
+    {
+        let subject = Subject::Whole(subject);
+        Message {
+            number,
+            subject,
+            reason,
+        }
     }
-    Ok(margin)
+
+    /// A message that shows the line where a part of a text begins, with carets under the part.
+    pub fn pointing(
+        heap: Global,
+        number: u8,
+        file: TextFile<'a>,
+        span: Span,
+        reason: Reason,
+    ) -> Result<Message<'a>, AllocError>
+        ensures number { IfOk result (λ message. message.number ≡ number) }
+        ensures title { IfOk result (λ message. message.reason.title.now ≡ reason.title.now) }
+    {
+        let subject = Subject::Part(Snippet::of(heap, file, span)?);
+        Ok(Message {
+            number,
+            subject,
+            reason,
+        })
+    }
 }
 
-/// The first line of a part. Of one that goes on, the carets say how far.
-fn drawn(heap: Global, text: &[u8], spot: Position, span: Span) -> Result<Snippet, AllocError> {
-    let line = part(text, spot.from, spot.to);
-    let last = position_of(text, span.stop.saturating_sub(1)).line;
-    let place = span.place.saturating_sub(spot.from);
-    if last <= spot.line {
-        return draw(heap, line, place, span.stop.saturating_sub(spot.from));
+impl fmt::Display for Message<'_> {
+    fn fmt<W: fmt::Write>(&self, f: &mut fmt::Formatter<W>) -> fmt::Result {
+        writeln!(f, "error[{}]: {}", self.number, self.reason.title)?;
+        let margin = match &self.subject {
+            Subject::Whole(subject) => {
+                writeln!(f, " --> {subject}")?;
+                1
+            }
+            Subject::Part(snippet) => {
+                write!(f, "{snippet}")?;
+                snippet.margin()
+            }
+        };
+        writeln!(f, "{:margin$} = why: {}", "", self.reason.why)?;
+        writeln!(f, "{:margin$} = help: {}", "", self.reason.help)
     }
-    let mut snippet = draw(heap, line, place, end_of_words(line))?;
-    snippet
-        .carets
-        .push_str(format!(in heap; " to line {last}")?.as_str())?;
-    Ok(snippet)
 }

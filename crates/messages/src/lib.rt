@@ -8,14 +8,14 @@
 #![tactic(auto)]
 
 mod context;
-mod expected;
+pub mod file;
 pub mod frame;
+mod line;
 pub mod names;
-pub mod origin;
-mod place;
 mod quote;
 pub mod reason;
 mod reasons;
 pub mod refusal;
+pub mod rule_text;
 mod snippet;
 pub mod tokens;

@@ -1,18 +1,14 @@
 //! Names that cannot name a reading.
-use crate::frame::about;
-use crate::quote::quoted;
+ghost use Rattle.std.specs.Prelude.{◌≡◌, IfOk};
+
+use crate::frame::Message;
+use crate::quote::Quoted;
 use crate::reason::Reason;
-use crate::tokens::is_name;
 use book::fault::NameFault;
+use book::name::MOST_BYTES;
+use lexer::scan::{is_name, next_part};
 use std::alloc::{AllocError, Global};
-
-/// How many bytes a name may have, and how many names there may be.
-const MOST_BYTES: usize = 32;
-
-const MOST_NAMES: usize = 8;
-
-/// How a name is written.
-const SPELLING: &str = "write a letter, then letters, digits and underscores";
+use syntax::limits::MOST_READINGS;
 
 /// The message for a refused name, which stands at this place among the names, from 0.
 pub fn refused(
@@ -20,56 +16,57 @@ pub fn refused(
     fault: NameFault,
     name: &str,
     at: usize,
-) -> Result<String, AllocError> {
-    let number = fault.number();
+) -> Result<Message<'static>, AllocError>
+    ensures { IfOk result (λ message. message.number ≡ 53) }
+{
     let order = at.saturating_add(1);
-    let reason = reason_of(heap, name, at)?;
-    let name = quoted(heap, name.as_bytes())?;
+    let reason = reason_of(heap, name.as_bytes(), at)?;
+    let name = Quoted(name.as_bytes());
     let subject = format!(in heap; "NAME {order} of the call: {name}")?;
-    about(heap, number, subject.as_str(), &reason)
+    Ok(Message::about(fault.number(), subject.into(), reason))
 }
 
 /// Why a name is refused that stands at this place, from 0.
-fn reason_of(heap: Global, name: &str, at: usize) -> Result<Reason, AllocError> {
-    let length = name.len();
-    if at >= MOST_NAMES {
-        let why = "a rule has at most 8 readings";
-        return Reason::plain(
-            heap,
-            "there are too many names",
-            why,
-            "name at most 8 readings",
-        );
+fn reason_of(heap: Global, name: &[u8], at: usize) -> Result<Reason, AllocError> {
+    if at >= MOST_READINGS {
+        let why = format!(in heap; "a rule has at most {MOST_READINGS} readings")?;
+        let help = format!(in heap; "name at most {MOST_READINGS} readings")?;
+        return Ok(Reason::new("there are too many names", why, help));
     }
+    let length = name.len();
     if length > MOST_BYTES {
-        let title = String::from_str(heap, "the name is too long")?;
         let why = format!(in heap;
             "it has {length} bytes, and a reading's name at most {MOST_BYTES}"
         )?;
-        let help = String::from_str(heap, "choose a shorter name")?;
-        return Ok(Reason { title, why, help });
+        return Ok(Reason::new("the name is too long", why, "choose a shorter name"));
     }
-    if is_name(name.as_bytes()) {
-        let why = "an earlier reading has the same name";
-        let help = "give each reading a name of its own";
-        return Reason::plain(heap, "the name is there already", why, help);
+    if is_name(name) {
+        return Ok(Reason::new(
+            "the name is there already",
+            "an earlier reading has the same name",
+            "give each reading a name of its own",
+        ));
     }
-    Reason::plain(
-        heap,
+    Ok(Reason::new(
         "this is not a name",
-        no_name(name.as_bytes()),
-        SPELLING,
-    )
+        no_name(name),
+        "write a letter, then letters, digits and underscores",
+    ))
 }
 
-/// Why these bytes are no name.
+/// Why these bytes are no name. A word that is none is a keyword.
 fn no_name(name: &[u8]) -> &'static str {
-    match name {
-        [] => "it is empty",
-        b"fun" | b"let" | b"in" | b"if" | b"then" | b"else" | b"true" | b"false" => {
-            "it is one of the eight keywords"
+    match name.first() {
+        None => "it is empty",
+        Some(first) if !first.is_ascii_alphabetic() => {
+            "it does not begin with a letter from A to Z or a to z"
         }
-        [b'A'..=b'Z' | b'a'..=b'z', ..] => "it has a byte that is no letter, digit or underscore",
-        _ => "it does not begin with a letter from A to Z or a to z",
+        Some(_) if is_token(name) => "it is one of the eight keywords",
+        Some(_) => "it has a byte that is no letter, digit or underscore",
     }
+}
+
+/// Whether these bytes are one token.
+fn is_token(bytes: &[u8]) -> bool {
+    next_part(bytes, 0).is_ok_and(|token| token.stop == bytes.len())
 }

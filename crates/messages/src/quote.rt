@@ -1,44 +1,62 @@
 //! Showing bytes that somebody else wrote, so that they cannot disturb a message.
-use std::alloc::{AllocError, Global};
+use std::fmt;
 
 /// How many bytes are quoted within a sentence.
 const MOST_QUOTED: usize = 40;
 
-/// Bytes within backquotes, the end cut off where there are many.
-pub(crate) fn quoted(heap: Global, bytes: &[u8]) -> Result<String, AllocError> {
-    let mut shown = String::from_str(heap, "`")?;
-    for byte in bytes.iter().take(MOST_QUOTED) {
-        shown.push_str(cell_of_byte(heap, *byte)?.as_str())?;
-    }
-    if bytes.len() > MOST_QUOTED {
-        shown.push_str("...")?;
-    }
-    shown.push('`')?;
-    Ok(shown)
+/// A character of a line, or a byte of a line that is not UTF-8, as it is shown: a tab as four blanks, and what would
+/// move the cursor or hide text by its number.
+#[derive(Clone, Copy)]
+pub(crate) enum Cell {
+    Char(char),
+    Byte(u8),
 }
 
-/// A character as it is shown: a tab as four blanks, and what would move the cursor or hide text
-/// by its number.
-pub(crate) fn cell_of_char(heap: Global, character: char) -> Result<String, AllocError> {
+impl From<u8> for Cell {
+    fn from(byte: u8) -> Cell {
+        if byte.is_ascii() {
+            Cell::Char(byte as char)
+        } else {
+            Cell::Byte(byte)
+        }
+    }
+}
+
+impl fmt::Display for Cell {
+    fn fmt<W: fmt::Write>(&self, f: &mut fmt::Formatter<W>) -> fmt::Result {
+        match *self {
+            Cell::Char('\t') => write!(f, "    "),
+            Cell::Char(character) if is_hidden(character) => {
+                write!(f, "{}", character.escape_unicode())
+            }
+            Cell::Char(character) => write!(f, "{character}"),
+            Cell::Byte(byte) => write!(f, "\\x{byte:02x}"),
+        }
+    }
+}
+
+/// Whether a character would move the cursor or hide text.
+fn is_hidden(character: char) -> bool {
     match character {
-        '\t' => String::from_str(heap, "    "),
-        '\u{0}'..='\u{1f}' | '\u{7f}'..='\u{9f}' => escaped(heap, character),
-        '\u{200b}'..='\u{200f}' | '\u{2028}'..='\u{202e}' => escaped(heap, character),
-        '\u{2066}'..='\u{2069}' | '\u{feff}' => escaped(heap, character),
-        _ => format!(in heap; "{character}"),
+        '\u{200b}'..='\u{200f}' | '\u{2028}'..='\u{202e}' => true,
+        '\u{2066}'..='\u{2069}' | '\u{feff}' => true,
+        _ => character.is_control(),
     }
 }
 
-fn escaped(heap: Global, character: char) -> Result<String, AllocError> {
-    let number = character as u32;
-    format!(in heap; "\\u{{{number:x}}}")
-}
+/// Bytes within backquotes, the end cut off where there are many.
+#[derive(Clone, Copy)]
+pub(crate) struct Quoted<'a>(pub(crate) &'a [u8]);
 
-/// A byte of a line that is not UTF-8.
-pub(crate) fn cell_of_byte(heap: Global, byte: u8) -> Result<String, AllocError> {
-    if byte < 128 {
-        cell_of_char(heap, byte as char)
-    } else {
-        format!(in heap; "\\x{byte:02x}")
+impl fmt::Display for Quoted<'_> {
+    fn fmt<W: fmt::Write>(&self, f: &mut fmt::Formatter<W>) -> fmt::Result {
+        write!(f, "`")?;
+        for byte in self.0.iter().take(MOST_QUOTED) {
+            write!(f, "{}", Cell::from(*byte))?;
+        }
+        if self.0.len() > MOST_QUOTED {
+            write!(f, "...")?;
+        }
+        write!(f, "`")
     }
 }

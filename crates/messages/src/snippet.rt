@@ -1,97 +1,122 @@
 //! The line of a refused token, with carets under the token.
-use crate::quote::{cell_of_byte, cell_of_char};
+use crate::file::TextFile;
+use crate::frame::Span;
+use crate::line::Line;
+use crate::quote::Cell;
 use std::alloc::{AllocError, Global};
+use std::fmt;
+use std::ops::Range;
 
 /// How many bytes of a line are shown, and how many of them before the token where the line is longer.
 const MOST_SHOWN: usize = 72;
 
 const BEFORE: usize = 32;
 
-/// A line as it is shown, and the carets below it, cell by cell.
+/// Where a part of a text begins, its line as it is shown, and the carets below it, cell by cell.
 #[derive(Drop)]
-pub struct Snippet {
-    pub shown: String,
-    pub carets: String,
+pub(crate) struct Snippet<'a> {
+    file: &'a str,
+    line: usize,
+    column: usize,
+    shown: String,
+    carets: String,
 }
 
-/// The bytes to underline, and the bytes to show, each from a place to another in the line.
-#[derive(Clone, Copy)]
-struct Extent {
-    place: usize,
-    stop: usize,
-    from: usize,
-    to: usize,
+impl<'a> Snippet<'a> {
+    /// Shows the first line of a part. Of one that goes on, the carets say how far.
+    pub(crate) fn of(
+        heap: Global,
+        file: TextFile<'a>,
+        span: Span,
+    ) -> Result<Snippet<'a>, AllocError> {
+        let line = Line::of(file.text, span.place);
+        let last = Line::of(file.text, span.stop.saturating_sub(1)).number;
+        let place = line.before(span.place);
+        let mut snippet = Snippet {
+            file: file.name,
+            line: line.number,
+            column: place.saturating_add(1),
+            shown: String::new(heap),
+            carets: String::new(heap),
+        };
+        if last > line.number {
+            snippet.draw(heap, line.bytes, place..line.bytes.trim_ascii_end().len())?;
+            write!(snippet.carets, " to line {last}")?;
+        } else {
+            snippet.draw(heap, line.bytes, place..line.before(span.stop))?;
+        }
+        Ok(snippet)
+    }
+
+    /// Draws a line with carets under some of its bytes, or one behind it where it ends.
+    fn draw(&mut self, heap: Global, line: &[u8], marked: Range<usize>) -> Result<(), AllocError> {
+        let seen = seen_of(line.len(), marked.start);
+        if seen.start > 0 {
+            self.shown.push_str("...")?;
+            self.carets.push_str("   ")?;
+        }
+        for (at, cell) in cells(heap, line)?
+            .iter()
+            .filter(|(at, _)| seen.contains(at))
+        {
+            let cell = cell.to_string(heap)?;
+            self.shown.push_str(cell.as_str())?;
+            if *at < marked.end {
+                let mark = if *at < marked.start { " " } else { "^" };
+                let marks = mark.repeat(heap, cell.chars().count())?;
+                self.carets.push_str(marks.as_str())?;
+            }
+        }
+        if seen.end < line.len() {
+            self.shown.push_str("...")?;
+        }
+        if marked.start >= line.len() {
+            self.carets.push('^')?;
+        }
+        Ok(())
+    }
+
+    /// As many blanks as the number of the line has digits stand before what is not the line.
+    pub(crate) fn margin(&self) -> usize {
+        self.line
+            .checked_ilog10()
+            .map_or(1, |tens| tens as usize + 1)
+    }
 }
 
 /// Cuts what is shown of a line so that the token stays in sight.
-fn extent_of(length: usize, place: usize, stop: usize) -> Extent {
+fn seen_of(length: usize, place: usize) -> Range<usize> {
     let from = if length <= MOST_SHOWN {
         0
     } else {
         place.saturating_sub(BEFORE)
     };
-    let to = from.saturating_add(MOST_SHOWN).min(length);
-    Extent {
-        place,
-        stop,
-        from,
-        to,
-    }
+    from..from.saturating_add(MOST_SHOWN).min(length)
 }
 
-/// Draws a line with carets under the bytes from `place` to `stop`, or one behind it where it ends.
-pub(crate) fn draw(
-    heap: Global,
-    line: &[u8],
-    place: usize,
-    stop: usize,
-) -> Result<Snippet, AllocError> {
-    let extent = extent_of(line.len(), place, stop);
-    let mut snippet = Snippet {
-        shown: String::new(heap),
-        carets: String::new(heap),
-    };
-    if extent.from > 0 {
-        snippet.shown.push_str("...")?;
-        snippet.carets.push_str("   ")?;
-    }
+/// What is shown for each character, or for each byte where the line is not UTF-8, with its place in the line.
+fn cells(heap: Global, line: &[u8]) -> Result<Vec<(usize, Cell)>, AllocError> {
     match std::str::from_utf8(line) {
-        Ok(text) => {
-            for (at, character) in text.char_indices() {
-                let cell = cell_of_char(heap, character)?;
-                snippet.put(extent, at, cell.as_str())?;
-            }
-        }
-        Err(_) => {
-            for (at, byte) in line.iter().enumerate() {
-                let cell = cell_of_byte(heap, *byte)?;
-                snippet.put(extent, at, cell.as_str())?;
-            }
-        }
+        Ok(text) => text
+            .char_indices()
+            .map(|(at, character)| (at, Cell::Char(character)))
+            .collect(heap),
+        Err(_) => line
+            .iter()
+            .enumerate()
+            .map(|(at, byte)| (at, Cell::from(*byte)))
+            .collect(heap),
     }
-    if extent.to < line.len() {
-        snippet.shown.push_str("...")?;
-    }
-    if place >= line.len() {
-        snippet.carets.push('^')?;
-    }
-    Ok(snippet)
 }
 
-impl Snippet {
-    /// Shows what stands at a byte, and a caret or a blank under each of its cells.
-    fn put(&mut self, extent: Extent, at: usize, cell: &str) -> Result<(), AllocError> {
-        if at < extent.from || at >= extent.to {
-            return Ok(());
-        }
-        self.shown.push_str(cell)?;
-        if at >= extent.stop {
-            return Ok(());
-        }
-        let mark = if at >= extent.place { '^' } else { ' ' };
-        for _ in cell.chars() {
-            self.carets.push(mark)?;
-        }
-        Ok(())
+impl fmt::Display for Snippet<'_> {
+    fn fmt<W: fmt::Write>(&self, f: &mut fmt::Formatter<W>) -> fmt::Result {
+        let margin = self.margin();
+        let line = self.line;
+        writeln!(f, "{:margin$}--> {}:{line}:{}", "", self.file, self.column)?;
+        writeln!(f, "{:margin$} |", "")?;
+        writeln!(f, "{line} | {}", self.shown)?;
+        writeln!(f, "{:margin$} | {}", "", self.carets)?;
+        writeln!(f, "{:margin$} |", "")
     }
 }

@@ -1,101 +1,104 @@
-//! How far tokens reach: enough of the lexer to underline a token and to say what stands before it.
+//! The tokens of a text, one after another.
+ghost use Rattle.std.specs.Prelude.{◌≡◌, ◌-◌, length};
+ghost use Rattle.messages.specs.Begins.{begins_node};
+ghost use Rattle.std.specs.Iterator.{at_most};
 
-/// What a token is to whoever comes next.
-#[derive(Clone, Copy, PartialEq, Eq)]
-pub enum Sort {
-    /// `fun` or `let`: a name follows.
-    Binder,
-    /// `->`, `=`, `(`, `in`, `if`, `then` or `else`: an expression follows.
-    Opener,
-    /// `+` or `<=`: an operand follows.
-    Operator,
-    Close,
-    Name,
-    /// A number, `true` or `false`.
-    Constant,
-    /// No token begins with this byte.
-    Nothing,
-}
+use grammar::Mark;
+use lexer::scan::next_part;
+use lexer::token::{Placed, Token};
 
-/// A token by the places of its first byte and of the byte behind its last.
+/// A token with its place, and the token before it.
 #[derive(Clone, Copy)]
-pub struct Token {
-    pub sort: Sort,
+pub struct Piece<'a> {
+    pub before: Option<Token<'a>>,
+    pub token: Token<'a>,
     pub place: usize,
     pub stop: usize,
 }
 
-pub fn is_blank(byte: u8) -> bool {
-    matches!(byte, b' ' | b'\t' | b'\n' | b'\r')
-}
-
-fn is_word(byte: u8) -> bool {
-    byte.is_ascii_alphanumeric() || byte == b'_'
-}
-
-/// Where the digits, or the bytes of a word, that go on from a place stop.
-fn run(text: &[u8], from: usize, digits: bool) -> usize {
-    let mut stop = from;
-    for byte in text.iter().skip(from) {
-        let goes_on = if digits {
-            byte.is_ascii_digit()
-        } else {
-            is_word(*byte)
-        };
-        if !goes_on {
-            break;
+impl Piece<'_> {
+    /// Whether a node begins with it: with a number, a truth, a name, `fun`, `let` or `if`. A name behind `fun` or
+    /// `let` is opened there, and no node.
+    pub fn begins_node(&self) -> bool
+        ensures { result ≡ begins_node self.now.before self.now.token }
+    {
+        match self.token {
+            Token::Name(_) => !matches!(self.before, Some(Token::Mark(Mark::Fun | Mark::Let))),
+            Token::Number(_) => true,
+            Token::Mark(Mark::True | Mark::False | Mark::Fun | Mark::Let | Mark::If) => true,
+            _ => false,
         }
-        stop = stop.saturating_add(1);
     }
-    stop
-}
 
-fn word_sort(word: &[u8]) -> Sort {
-    match word {
-        b"fun" | b"let" => Sort::Binder,
-        b"in" | b"if" | b"then" | b"else" => Sort::Opener,
-        b"true" | b"false" => Sort::Constant,
-        _ => Sort::Name,
+    /// Whether a node has it between its children: a sum or a comparison.
+    fn joins(&self) -> bool {
+        matches!(self.token, Token::Mark(Mark::Plus | Mark::AtMost))
     }
-}
 
-/// The byte at a place; 0, which begins no token, behind the end.
-pub fn byte_at(text: &[u8], place: usize) -> u8 {
-    if place < text.len() { text[place] } else { 0 }
-}
+    /// Whether an argument begins with it: an operand that follows another.
+    fn begins_argument(&self) -> bool {
+        self.token.starts_atom() && self.before.is_some_and(|before| ends_operand(before))
+    }
 
-/// The bytes from a place to another, as far as there are any.
-pub fn part(text: &[u8], from: usize, to: usize) -> &[u8] {
-    if from <= to && to <= text.len() {
-        &text[from..to]
-    } else {
-        &[]
+    /// How many nodes it brings.
+    fn nodes(&self) -> usize {
+        usize::from(self.begins_node() || self.joins()) + usize::from(self.begins_argument())
     }
 }
 
-/// The token at a place, or the one byte there where none begins.
-pub fn token_at(text: &[u8], place: usize) -> Token {
-    let next = place.saturating_add(1);
-    let after = byte_at(text, next);
-    let (sort, stop) = match byte_at(text, place) {
-        b'(' | b'=' => (Sort::Opener, next),
-        b')' => (Sort::Close, next),
-        b'+' => (Sort::Operator, next),
-        b'<' if after == b'=' => (Sort::Operator, next.saturating_add(1)),
-        b'-' if after == b'>' => (Sort::Opener, next.saturating_add(1)),
-        b'-' if after.is_ascii_digit() => (Sort::Constant, run(text, next, true)),
-        b'0'..=b'9' => (Sort::Constant, run(text, next, true)),
-        b'A'..=b'Z' | b'a'..=b'z' => {
-            let stop = run(text, next, false);
-            (word_sort(part(text, place, stop)), stop)
+/// Whether an operand ends with a token.
+pub(crate) fn ends_operand(token: Token) -> bool {
+    match token {
+        Token::Name(_) | Token::Number(_) => true,
+        Token::Mark(mark) => matches!(mark, Mark::True | Mark::False | Mark::Close),
+        Token::End => false,
+    }
+}
+
+/// Goes over the tokens of a text, as far as it has any.
+#[derive(Drop)]
+pub struct Tokens<'a> {
+    text: &'a [u8],
+    before: Option<Token<'a>>,
+    from: usize,
+}
+
+impl<'a> Tokens<'a> {
+    /// Begins at the first.
+    pub fn of(text: &'a [u8]) -> Tokens<'a>
+        ensures text { result.text.now ≡ text.now }
+        ensures first { (result.from ≡ 0) × (result.before ≡ None) }
+    {
+        Tokens {
+            text,
+            before: None,
+            from: 0,
         }
-        _ => (Sort::Nothing, next),
-    };
-    Token { sort, place, stop }
+    }
 }
 
-/// Whether these bytes are a name.
-pub(crate) fn is_name(bytes: &[u8]) -> bool {
-    let token = token_at(bytes, 0);
-    token.sort == Sort::Name && token.stop == bytes.len()
+impl<'a> Iterator for Tokens<'a> {
+    type Item = Piece<'a>;
+
+    ghost remaining = { λ s. at_most (length s.text.now - s.from) };
+
+    fn next(&mut self) -> Option<Piece<'a>> {
+        let Placed { token, place, stop } = next_part(self.text, self.from).ok()?;
+        if token.is_end() {
+            return None;
+        }
+        let before = self.before.replace(token);
+        self.from = stop;
+        Some(Piece {
+            before,
+            token,
+            place,
+            stop,
+        })
+    }
+}
+
+/// How many nodes the tree of a sentence has.
+pub(crate) fn nodes_of_sentence(text: &[u8]) -> usize {
+    Tokens::of(text).fold(0, |nodes: usize, piece| nodes.saturating_add(piece.nodes()))
 }

@@ -1,19 +1,18 @@
 -- Trees in a table that grows. Assumes nothing.
 use mathlib.Core.Bool.{Bool}
-use mathlib.Core.List.{List}
-use mathlib.Core.Logic.{◌≢◌}
+use mathlib.Core.List.{List, [], ◌∷◌}
 use mathlib.Core.Path.{◌≡◌, refl, ◌∙◌, ap}
 use lib.IntN.{pos}
-use lib.ListN.{length, length-append}
-use lib.Seq.{get_or-set_same, get_or-set_other}
+use lib.ListN.{length, length-append, get_or-append}
+use lib.Seq.{get_or-append_seam}
 use native.Mathlib.Omega.{arith}
 use Prim.Native.Nat.{ℕ, ◌+◌, ◌≤◌, ◌<◌}
 use Rattle.syntax.specs.Tree.{Tree, nodes, number, truth, variable, function, application, let_in, sum, at_most, if_else}
 use Rattle.syntax.specs.Record.{encode}
-use Rattle.nodes.specs.declared.node.Node.{Node}
-use Rattle.nodes.specs.declared.node.Node.TheVariants.{Number, Function, Application, LetIn, Sum, AtMost, IfElse}
-use Rattle.nodes.specs.declared.node.Table.{Table}
-use Rattle.nodes.specs.Nodes.{width, at, Holds, Pushed, Grown, One}
+use Rattle.syntax.specs.declared.node.Node.{Node}
+use Rattle.syntax.specs.declared.node.Node.TheVariants.{Number, Truth, Function, Application, LetIn, Sum, AtMost, IfElse}
+use Rattle.nodes.specs.declared.table.Table.{Table}
+use Rattle.nodes.specs.Nodes.{width, at, count, Holds, Pushed, Grown, One}
 
 -- a tree stays where the nodes below a bound stay
 pub holds_kept : (t : Tree) (ns ms : List Node) (n i : ℕ) → i < n → ((j : ℕ) → j < n → at ms j ≡ at ns j) → Holds ns i t → Holds ms i t
@@ -34,22 +33,18 @@ holds_kept (if_else t u v) ns ms n i lt same h =
 
 -- ── one node more ──
 
-module _ (before after : Table) (n : Node) (place : ℕ) (p : Pushed before after n place) (fits : after.count ≤ 512) where
-  pub push_room : before.count < 512
+module _ (before after : Table) (n : Node) (place : ℕ) (p : Pushed before after n place) (fits : count after ≤ 512) where
+  pub push_room : count before < 512
   push_room = omega (arith, p.counted)
 
-  pub push_next : after.count ≡ before.count + 1
+  pub push_next : count after ≡ count before + 1
   push_next = omega (arith, p.counted)
 
-  pub push_here : at after.nodes place ≡ n
-  push_here =
-      let lt : before.count < length before.nodes = omega (arith, push_room, before.whole) in
-      ap (λ i. at after.nodes i) p.behind ∙ ap (λ l. at l before.count) (p.stored push_room) ∙ get_or-set_same before.nodes before.count n (Number (pos 0)) lt
+  pub push_here : at after.nodes.items place ≡ n
+  push_here = ap (λ i. at after.nodes.items i) p.behind ∙ ap (λ l. at l (count before)) (p.stored push_room) ∙ get_or-append_seam before.nodes.items n [] (Number (pos 0))
 
-  pub push_below : (i : ℕ) → i < before.count → at after.nodes i ≡ at before.nodes i
-  push_below i lt =
-      let ne : i ≢ before.count = λ e. omega arith in
-      ap (λ l. at l i) (p.stored push_room) ∙ get_or-set_other before.nodes before.count i n (Number (pos 0)) ne
+  pub push_below : (i : ℕ) → i < count before → at after.nodes.items i ≡ at before.nodes.items i
+  push_below i lt = ap (λ l. at l i) (p.stored push_room) ∙ get_or-append before.nodes.items (n ∷ []) (Number (pos 0)) i lt
 
   pub push_wider : after.bytes ≡ before.bytes + width n
   push_wider = p.wider push_room
@@ -60,7 +55,7 @@ pub grown_leaf : (t₀ t₁ : Table) (n : Node) (r : ℕ) (t : Tree) → Pushed 
 grown_leaf t₀ t₁ n r (number k) p e = record { counted = p.counted; wider = λ h. push_wider t₀ t₁ n r p h ∙ ap (λ m. t₀.bytes + width m) e; inside = λ h. omega (arith, p.behind, push_next t₀ t₁ n r p h); holds = λ h. push_here t₀ t₁ n r p h ∙ e; kept = λ h. push_below t₀ t₁ n r p h }
 grown_leaf t₀ t₁ n r (truth b) p e = record { counted = p.counted; wider = λ h. push_wider t₀ t₁ n r p h ∙ ap (λ m. t₀.bytes + width m) e ∙ truth_width b; inside = λ h. omega (arith, p.behind, push_next t₀ t₁ n r p h); holds = λ h. push_here t₀ t₁ n r p h ∙ e; kept = λ h. push_below t₀ t₁ n r p h }
   where
-    truth_width : (b : Bool) → t₀.bytes + 1 ≡ t₀.bytes + length (encode (truth b))
+    truth_width : (b : Bool) → t₀.bytes + width (Truth b) ≡ t₀.bytes + length (encode (truth b))
     truth_width Bool.true = refl
     truth_width Bool.false = refl
 grown_leaf t₀ t₁ n r (variable d) p e = record { counted = p.counted; wider = λ h. push_wider t₀ t₁ n r p h ∙ ap (λ m. t₀.bytes + width m) e; inside = λ h. omega (arith, p.behind, push_next t₀ t₁ n r p h); holds = λ h. push_here t₀ t₁ n r p h ∙ e; kept = λ h. push_below t₀ t₁ n r p h }
@@ -73,12 +68,12 @@ grown_leaf t₀ t₁ n r (if_else a b c) p e = absurd e
 
 pub grown_function : (t₀ t₁ t₂ : Table) (a r : ℕ) (t : Tree) → Grown t₀ t₁ t a → Pushed t₁ t₂ (Function a) r → Grown t₀ t₂ (function t) r
 grown_function t₀ t₁ t₂ a r t g p =
-    let few : t₂.count ≤ 512 → t₁.count ≤ 512 = λ h. omega (arith, push_room t₁ t₂ (Function a) r p h) in
+    let few : count t₂ ≤ 512 → count t₁ ≤ 512 = λ h. omega (arith, push_room t₁ t₂ (Function a) r p h) in
     record {
       counted = omega (arith, g.counted, p.counted);
       wider = λ h. omega (arith, push_wider t₁ t₂ (Function a) r p h, g.wider (few h));
       inside = λ h. omega (arith, p.behind, push_next t₁ t₂ (Function a) r p h);
-      holds = λ h. (a, omega (arith, p.behind, g.inside (few h)), push_here t₁ t₂ (Function a) r p h, holds_kept t t₁.nodes t₂.nodes t₁.count a (g.inside (few h)) (push_below t₁ t₂ (Function a) r p h) (g.holds (few h)));
+      holds = λ h. (a, omega (arith, p.behind, g.inside (few h)), push_here t₁ t₂ (Function a) r p h, holds_kept t t₁.nodes.items t₂.nodes.items (count t₁) a (g.inside (few h)) (push_below t₁ t₂ (Function a) r p h) (g.holds (few h)));
       kept = λ h i lt. push_below t₁ t₂ (Function a) r p h i (omega (arith, g.counted, few h)) ∙ g.kept (few h) i lt;
     }
 
@@ -94,15 +89,15 @@ module _
     pub grown_two : (t₀ t₁ t₂ t₃ : Table) (a b r : ℕ) (t u : Tree) → Grown t₀ t₁ t a → Grown t₁ t₂ u b → Pushed t₂ t₃ (mk a b) r → Grown t₀ t₃ (tree t u) r
     grown_two t₀ t₁ t₂ t₃ a b r t u g g' p =
         let n = mk a b in
-        let few₂ : t₃.count ≤ 512 → t₂.count ≤ 512 = λ h. omega (arith, push_room t₂ t₃ n r p h) in
-        let few₁ : t₃.count ≤ 512 → t₁.count ≤ t₂.count = λ h. omega (arith, few₂ h, g'.counted) in
-        let few₁' : t₃.count ≤ 512 → t₁.count ≤ 512 = λ h. omega (arith, few₂ h, few₁ h) in
-        let below : (h : t₃.count ≤ 512) (i : ℕ) → i < t₁.count → at t₃.nodes i ≡ at t₁.nodes i = λ h i lt. push_below t₂ t₃ n r p h i (omega (arith, few₁ h)) ∙ g'.kept (few₂ h) i lt in
+        let few₂ : count t₃ ≤ 512 → count t₂ ≤ 512 = λ h. omega (arith, push_room t₂ t₃ n r p h) in
+        let few₁ : count t₃ ≤ 512 → count t₁ ≤ count t₂ = λ h. omega (arith, few₂ h, g'.counted) in
+        let few₁' : count t₃ ≤ 512 → count t₁ ≤ 512 = λ h. omega (arith, few₂ h, few₁ h) in
+        let below : (h : count t₃ ≤ 512) (i : ℕ) → i < count t₁ → at t₃.nodes.items i ≡ at t₁.nodes.items i = λ h i lt. push_below t₂ t₃ n r p h i (omega (arith, few₁ h)) ∙ g'.kept (few₂ h) i lt in
         record {
           counted = omega (arith, g.counted, g'.counted, p.counted, all t u);
           wider = λ h. omega (arith, push_wider t₂ t₃ n r p h, narrow a b, g.wider (few₁' h), g'.wider (few₂ h), long t u);
           inside = λ h. omega (arith, p.behind, push_next t₂ t₃ n r p h);
-          holds = λ h. held t₃.nodes r a b t u (omega (arith, p.behind, g.inside (few₁' h), few₁ h)) (omega (arith, p.behind, g'.inside (few₂ h))) (push_here t₂ t₃ n r p h) (holds_kept t t₁.nodes t₃.nodes t₁.count a (g.inside (few₁' h)) (below h) (g.holds (few₁' h))) (holds_kept u t₂.nodes t₃.nodes t₂.count b (g'.inside (few₂ h)) (push_below t₂ t₃ n r p h) (g'.holds (few₂ h)));
+          holds = λ h. held t₃.nodes.items r a b t u (omega (arith, p.behind, g.inside (few₁' h), few₁ h)) (omega (arith, p.behind, g'.inside (few₂ h))) (push_here t₂ t₃ n r p h) (holds_kept t t₁.nodes.items t₃.nodes.items (count t₁) a (g.inside (few₁' h)) (below h) (g.holds (few₁' h))) (holds_kept u t₂.nodes.items t₃.nodes.items (count t₂) b (g'.inside (few₂ h)) (push_below t₂ t₃ n r p h) (g'.holds (few₂ h)));
           kept = λ h i lt. below h i (omega (arith, g.counted, few₁' h)) ∙ g.kept (few₁' h) i lt;
         }
 
@@ -127,13 +122,13 @@ long_three t u v = omega (arith, length-append (encode t) (mathlib.Core.List.◌
 pub grown_if : (t₀ t₁ t₂ t₃ t₄ : Table) (a b c r : ℕ) (t u v : Tree) → Grown t₀ t₁ t a → Grown t₁ t₂ u b → Grown t₂ t₃ v c → Pushed t₃ t₄ (IfElse a b c) r → Grown t₀ t₄ (if_else t u v) r
 grown_if t₀ t₁ t₂ t₃ t₄ a b c r t u v g g' g'' p =
     let n = IfElse a b c in
-    let few₃ : t₄.count ≤ 512 → t₃.count ≤ 512 = λ h. omega (arith, push_room t₃ t₄ n r p h) in
-    let le₂ : t₄.count ≤ 512 → t₂.count ≤ t₃.count = λ h. omega (arith, few₃ h, g''.counted) in
-    let few₂ : t₄.count ≤ 512 → t₂.count ≤ 512 = λ h. omega (arith, few₃ h, le₂ h) in
-    let le₁ : t₄.count ≤ 512 → t₁.count ≤ t₂.count = λ h. omega (arith, few₂ h, g'.counted) in
-    let few₁ : t₄.count ≤ 512 → t₁.count ≤ 512 = λ h. omega (arith, few₂ h, le₁ h) in
-    let below₂ : (h : t₄.count ≤ 512) (i : ℕ) → i < t₂.count → at t₄.nodes i ≡ at t₂.nodes i = λ h i lt. push_below t₃ t₄ n r p h i (omega (arith, le₂ h)) ∙ g''.kept (few₃ h) i lt in
-    let below₁ : (h : t₄.count ≤ 512) (i : ℕ) → i < t₁.count → at t₄.nodes i ≡ at t₁.nodes i = λ h i lt. below₂ h i (omega (arith, le₁ h)) ∙ g'.kept (few₂ h) i lt in
+    let few₃ : count t₄ ≤ 512 → count t₃ ≤ 512 = λ h. omega (arith, push_room t₃ t₄ n r p h) in
+    let le₂ : count t₄ ≤ 512 → count t₂ ≤ count t₃ = λ h. omega (arith, few₃ h, g''.counted) in
+    let few₂ : count t₄ ≤ 512 → count t₂ ≤ 512 = λ h. omega (arith, few₃ h, le₂ h) in
+    let le₁ : count t₄ ≤ 512 → count t₁ ≤ count t₂ = λ h. omega (arith, few₂ h, g'.counted) in
+    let few₁ : count t₄ ≤ 512 → count t₁ ≤ 512 = λ h. omega (arith, few₂ h, le₁ h) in
+    let below₂ : (h : count t₄ ≤ 512) (i : ℕ) → i < count t₂ → at t₄.nodes.items i ≡ at t₂.nodes.items i = λ h i lt. push_below t₃ t₄ n r p h i (omega (arith, le₂ h)) ∙ g''.kept (few₃ h) i lt in
+    let below₁ : (h : count t₄ ≤ 512) (i : ℕ) → i < count t₁ → at t₄.nodes.items i ≡ at t₁.nodes.items i = λ h i lt. below₂ h i (omega (arith, le₁ h)) ∙ g'.kept (few₂ h) i lt in
     record {
       counted = omega (arith, g.counted, g'.counted, g''.counted, p.counted);
       wider = λ h. omega (arith, push_wider t₃ t₄ n r p h, g.wider (few₁ h), g'.wider (few₂ h), g''.wider (few₃ h), long_three t u v);
@@ -146,9 +141,9 @@ grown_if t₀ t₁ t₂ t₃ t₄ a b c r t u v g g' g'' p =
         omega (arith, p.behind, g'.inside (few₂ h), le₂ h),
         omega (arith, p.behind, g''.inside (few₃ h)),
         push_here t₃ t₄ n r p h,
-        holds_kept t t₁.nodes t₄.nodes t₁.count a (g.inside (few₁ h)) (below₁ h) (g.holds (few₁ h)),
-        holds_kept u t₂.nodes t₄.nodes t₂.count b (g'.inside (few₂ h)) (below₂ h) (g'.holds (few₂ h)),
-        holds_kept v t₃.nodes t₄.nodes t₃.count c (g''.inside (few₃ h)) (push_below t₃ t₄ n r p h) (g''.holds (few₃ h)),
+        holds_kept t t₁.nodes.items t₄.nodes.items (count t₁) a (g.inside (few₁ h)) (below₁ h) (g.holds (few₁ h)),
+        holds_kept u t₂.nodes.items t₄.nodes.items (count t₂) b (g'.inside (few₂ h)) (below₂ h) (g'.holds (few₂ h)),
+        holds_kept v t₃.nodes.items t₄.nodes.items (count t₃) c (g''.inside (few₃ h)) (push_below t₃ t₄ n r p h) (g''.holds (few₃ h)),
       );
       kept = λ h i lt. below₁ h i (omega (arith, g.counted, few₁ h)) ∙ g.kept (few₁ h) i lt;
     }

@@ -1,22 +1,16 @@
 -- The table of nodes, and the trees that it holds. Assumes nothing.
-use Rattle.std.specs.Prelude.{List, ◌≡◌, pos, length, slice_index_or, set, ℕ, min, ◌+◌, ◌≤◌, ◌<◌}
+use Rattle.std.specs.Prelude.{List, [], ◌∷◌, ◌++◌, ◌≡◌, pos, length, slice_index_or, ℕ, min, ◌+◌, ◌≤◌, ◌<◌}
+use Rattle.arrayvec.specs.ArrayVec.{array_vec_len}
 use Rattle.syntax.specs.Tree.{Tree, nodes, number, truth, variable, function, application, let_in, sum, at_most, if_else}
 use Rattle.syntax.specs.Record.{encode}
-use Rattle.nodes.specs.declared.node.Node.{Node}
-use Rattle.nodes.specs.declared.node.Node.TheVariants.{Number, Truth, Variable, Function, Application, LetIn, Sum, AtMost, IfElse}
-use Rattle.nodes.specs.declared.node.Table.{Table}
+use Rattle.syntax.specs.Kinds.{kind_of, operands_of}
+use Rattle.syntax.specs.declared.node.Node.{Node}
+use Rattle.syntax.specs.declared.node.Node.TheVariants.{Number, Truth, Variable, Function, Application, LetIn, Sum, AtMost, IfElse}
+use Rattle.nodes.specs.declared.table.Table.{Table}
 
 -- how many bytes a node takes in a record, its children apart
 abbrev pub width : Node → ℕ
-width (Number k) = 5
-width (Truth b) = 1
-width (Variable d) = 3
-width (Function a) = 1
-width (Application a b) = 1
-width (LetIn a b) = 1
-width (Sum a b) = 1
-width (AtMost a b) = 1
-width (IfElse a b c) = 1
+width n = 1 + operands_of (kind_of n)
 
 abbrev pub at : List Node → ℕ → Node
 at ns i = slice_index_or ns i (Number (pos 0))
@@ -33,19 +27,23 @@ Holds ns i (sum t u) = (a b : ℕ) × (a < i) × (b < i) × (at ns i ≡ Sum a b
 Holds ns i (at_most t u) = (a b : ℕ) × (a < i) × (b < i) × (at ns i ≡ AtMost a b) × Holds ns a t × Holds ns b u
 Holds ns i (if_else t u v) = (a b c : ℕ) × (a < i) × (b < i) × (c < i) × (at ns i ≡ IfElse a b c) × Holds ns a t × Holds ns b u × Holds ns c v
 
+-- how many nodes a table holds, one too many at most
+abbrev pub count : Table → ℕ
+count table = array_vec_len table.nodes
+
 pub record Pushed (before after : Table) (n : Node) (place : ℕ) : Type 0 where
-  pub behind : place ≡ before.count
-  pub counted : after.count ≡ min (before.count + 1) 513
-  pub stored : before.count < 512 → after.nodes ≡ set before.nodes before.count n
-  pub wider : before.count < 512 → after.bytes ≡ before.bytes + width n
+  pub behind : place ≡ count before
+  pub counted : count after ≡ min (count before + 1) 513
+  pub stored : count before < 512 → after.nodes.items ≡ before.nodes.items ++ n ∷ []
+  pub wider : count before < 512 → after.bytes ≡ before.bytes + width n
 
 -- after a tree was read into a table, with its root at a place
 pub record Grown (before after : Table) (t : Tree) (root : ℕ) : Type 0 where
-  pub counted : after.count ≡ min (before.count + nodes t) 513
-  pub wider : after.count ≤ 512 → after.bytes ≡ before.bytes + length (encode t)
-  pub inside : after.count ≤ 512 → root < after.count
-  pub holds : after.count ≤ 512 → Holds after.nodes root t
-  pub kept : after.count ≤ 512 → (i : ℕ) → i < before.count → at after.nodes i ≡ at before.nodes i
+  pub counted : count after ≡ min (count before + nodes t) 513
+  pub wider : count after ≤ 512 → after.bytes ≡ before.bytes + length (encode t)
+  pub inside : count after ≤ 512 → root < count after
+  pub holds : count after ≤ 512 → Holds after.nodes.items root t
+  pub kept : count after ≤ 512 → (i : ℕ) → i < count before → at after.nodes.items i ≡ at before.nodes.items i
 
 -- the node of a tree of one node
 abbrev pub One : Node → Tree → Type 0

@@ -1,48 +1,33 @@
-//! Filling the table of nodes.
-ghost use Rattle.std.specs.Prelude.{◌≡◌};
-ghost use Rattle.nodes.specs.declared.node.Node.TheVariants.{Variable, Application, Sum};
-ghost use Rattle.nodes.specs.Nodes.{width, Pushed};
+//! The nodes of the tree that is being read.
+ghost use Rattle.std.specs.Prelude.{◌*◌, ◌≤◌};
+ghost use Rattle.arrayvec.specs.ArrayVec.{array_vec_len};
 
-use crate::node::{MOST_NODES, Node, Table};
+use arrayvec::ArrayVec;
+use syntax::limits::MOST_NODES;
+use syntax::node::Node;
 
-impl Node {
-    pub fn variable(distance: usize) -> Node
-        ensures { result ≡ Variable distance }
-    {
-        Node::Variable(distance)
-    }
+/// One more than a rule may have nodes.
+pub const TOO_MANY: usize = MOST_NODES + 1;
 
-    pub fn applied(function: usize, argument: usize) -> Node
-        ensures { result ≡ Application function argument }
-    {
-        Node::Application(function, argument)
-    }
-
-    pub fn summed(left: usize, right: usize) -> Node
-        ensures { result ≡ Sum left right }
-    {
-        Node::Sum(left, right)
-    }
-
-    /// How many bytes a node takes in a record, its children apart.
-    fn width(self) -> usize
-        ensures { result ≡ Rattle.nodes.specs.Nodes.width self }
-    {
-        match self {
-            Node::Number(_) => 5,
-            Node::Variable(_) => 3,
-            _ => 1,
-        }
-    }
+/// Nodes in the order in which they were completed, children before their parents. A text may have
+/// more nodes than a rule: past 512 they are only noticed, as one too many.
+#[derive(Drop)]
+pub struct Table {
+    pub nodes: ArrayVec<Node, TOO_MANY>,
+    /// How many bytes the nodes take in a record.
+    pub bytes: usize,
+    ghost small: { bytes ≤ 5 * array_vec_len nodes },
 }
 
 impl Table {
+    ghost use Rattle.std.specs.Prelude.{◌≡◌, []};
+    ghost use Rattle.nodes.specs.Nodes.{Pushed};
+
     pub fn new() -> Table
-        ensures { (result.count ≡ 0) × (result.bytes ≡ 0) }
+        ensures { (result.nodes.items ≡ []) × (result.bytes ≡ 0) }
     {
         Table {
-            nodes: [Node::Number(0); MOST_NODES],
-            count: 0,
+            nodes: ArrayVec::new(),
             bytes: 0,
         }
     }
@@ -51,13 +36,10 @@ impl Table {
     pub fn push(&mut self, node: Node) -> usize
         ensures { Pushed self.old self.new node result }
     {
-        let at = self.count;
-        if at < MOST_NODES {
-            self.nodes[at] = node;
-            self.bytes += node.width();
-            self.count = at + 1;
-        } else {
-            self.count = MOST_NODES + 1;
+        let at = self.nodes.len();
+        if !self.nodes.is_full() {
+            self.nodes.push(node);
+            self.bytes += 1 + node.kind().operands();
         }
         at
     }

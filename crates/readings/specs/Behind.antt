@@ -1,5 +1,5 @@
 -- The readings behind every list.
-use Rattle.std.specs.Prelude.{◌≡◌, ℕ, ◌+◌, ◌-◌, ◌<◌, ◌≤◌, min, List, ◌++◌, map, length, take, ℤ, pos, Some, None, Ok, Err, Option, Result, slice_index_or}
+use Rattle.std.specs.Prelude.{◌≡◌, ℕ, ◌+◌, ◌-◌, ◌<◌, ◌≤◌, List, ◌++◌, map, length, take, ℤ, pos, Some, None, Ok, Err, Option, Result, slice_index_or}
 use Rattle.store.specs.Lists.{Lists}
 use Rattle.store.specs.declared.fault.StoreFault.{StoreFault}
 use Rattle.store.specs.declared.fault.StoreFault.TheVariants.{Beyond}
@@ -30,10 +30,10 @@ behind rs lists h = added rs (lists h)
 abbrev pub cost_below : List Value → (ℕ → ℕ) → ℕ → ℕ
 cost_below rs cost n = cost (n - length rs)
 
--- the number at a place among the first `count` numbers, where there is one
-abbrev pub Picked : List ℤ → ℕ → ℕ → Option ℤ → Type 0
-Picked numbers count place None = min count (length numbers) ≤ place
-Picked numbers count place (Some z) = (place < min count (length numbers)) × (z ≡ slice_index_or numbers place (pos 0))
+-- the number at a place, where there is one
+abbrev pub Picked : List ℤ → ℕ → Option ℤ → Type 0
+Picked numbers place None = length numbers ≤ place
+Picked numbers place (Some z) = (place < length numbers) × (z ≡ slice_index_or numbers place (pos 0))
 
 -- the answer at an index that lies beyond the n elements below: a reading, or the whole length
 pub record Read (rs : List Value) (n i : ℕ) (r : Result Value StoreFault) : Type 0 where

@@ -1,7 +1,7 @@
 //! The layer that lays the readings behind every list of the store below.
-ghost use Rattle.std.specs.Prelude.{◌≡◌, ◌≤◌, take};
+ghost use Rattle.std.specs.Prelude.{◌≡◌, ◌≤◌};
 ghost use Rattle.store.specs.Lists.{Extended, Looked};
-ghost use Rattle.readings.specs.Behind.{values_of, as_values, behind, cost_below, Picked, Read};
+ghost use Rattle.readings.specs.Behind.{values_of, behind, cost_below, Read};
 
 use crate::readings_list::Readings;
 use crate::value::Value;
@@ -14,26 +14,15 @@ pub struct ReadingsLayer<S> {
     readings: Readings,
 }
 
-/// The number at a place among the first `count`, where there is one.
-fn pick(numbers: &[i32], count: usize, place: usize) -> Option<i32>
-    ensures { Picked numbers.now count place result }
-{
-    if place < count.min(numbers.len()) {
-        Some(numbers[place])
-    } else {
-        None
-    }
-}
-
 /// The answer at an index beyond the `length` elements below: a reading, or the whole length.
-fn reading(numbers: &[i32], count: usize, length: u32, index: u32) -> Result<Value, StoreFault>
+fn reading(readings: &Readings, length: u32, index: u32) -> Result<Value, StoreFault>
     requires { length ≤ index }
-    ensures { Read (as_values (take count numbers.now)) length index result }
+    ensures { Read (values_of readings.now) length index result }
 {
-    match pick(numbers, count, (index - length) as usize) {
+    match readings.get((index - length) as usize) {
         Some(number) => Ok(Value::Number(number)),
         None => Err(StoreFault::Beyond {
-            length: length + count.min(numbers.len()) as u32,
+            length: length + readings.len() as u32,
         }),
     }
 }
@@ -79,13 +68,9 @@ impl<S: BareStore + Store<Elem = Value>> ReadingsLayer<S> {
     {
         match self.below.look(handle, index) {
             Ok(value) => Ok(value),
-            Err(fault) => match fault {
-                StoreFault::Beyond { length } => {
-                    reading(&self.readings.numbers, self.readings.count, length, index)
-                }
-                StoreFault::NoList => Err(fault),
-                StoreFault::NoRoom => Err(fault),
-            },
+            Err(StoreFault::Beyond { length }) => reading(&self.readings, length, index),
+            Err(StoreFault::NoList) => Err(StoreFault::NoList),
+            Err(StoreFault::NoRoom) => Err(StoreFault::NoRoom),
         }
     }
 }

@@ -1,22 +1,17 @@
 //! The readings of a rule: at most eight numbers, held by value.
-ghost use Rattle.std.specs.Prelude.{◌≡◌, min, take, replicate, pos};
-ghost use Rattle.readings.specs.Behind.{numbers_of};
+ghost use Rattle.std.specs.Prelude.{◌≡◌, min, take, replicate, pos, length};
+ghost use Rattle.readings.specs.Behind.{numbers_of, Picked};
 
-/// The most readings that a rule can have.
-pub const MOST: usize = 8;
+use syntax::limits::MOST_READINGS;
 
 /// Readings, the first for reading 0.
+///
+/// Kept: an array with its count is copied as a whole, as a vector of fixed capacity is not, and copies are what callers
+/// hold.
 #[derive(Clone, Copy)]
 pub struct Readings {
-    pub(crate) numbers: [i32; MOST],
-    pub(crate) count: usize,
-}
-
-/// As many zeros as there can be readings.
-fn zero_numbers() -> [i32; MOST]
-    ensures { result ≡ replicate 8 (pos 0) }
-{
-    [0; MOST]
+    numbers: [i32; MOST_READINGS],
+    count: usize,
 }
 
 impl Readings {
@@ -24,11 +19,9 @@ impl Readings {
     pub fn new(numbers: &[i32]) -> Readings
         ensures { numbers_of result ≡ take 8 numbers.now }
     {
-        let count = numbers.len().min(MOST);
-        let mut held = zero_numbers();
-        for i in 0..count {
-            held[i] = numbers[i];
-        }
+        let count = numbers.len().min(MOST_READINGS);
+        let mut held = [0; MOST_READINGS];
+        held[..count].copy_from_slice(&numbers[..count]);
         Readings {
             numbers: held,
             count,
@@ -40,8 +33,22 @@ impl Readings {
         ensures { numbers_of result ≡ replicate (min 8 count) (pos 0) }
     {
         Readings {
-            numbers: zero_numbers(),
-            count: count.min(MOST),
+            numbers: [0; MOST_READINGS],
+            count: count.min(MOST_READINGS),
         }
+    }
+
+    /// How many there are.
+    pub(crate) fn len(&self) -> usize
+        ensures { result ≡ length (numbers_of self.now) }
+    {
+        self.count.min(self.numbers.len())
+    }
+
+    /// The number at a place, where there is one.
+    pub(crate) fn get(&self, place: usize) -> Option<i32>
+        ensures { Picked (numbers_of self.now) place result }
+    {
+        self.numbers[..self.len()].get(place).copied()
     }
 }

@@ -2,7 +2,7 @@
 use Rattle.std.proofs.Common.{◌≡◌, ℕ, ◌+◌, ◌<◌, ◌≤◌, true, false, List, length, ◌∙◌, arith}
 use Rattle.syntax.specs.Tree.{Tree, nodes, number, truth, variable, function, application, let_in, sum, at_most, if_else}
 use Rattle.syntax.specs.Record.{encode}
-use Rattle.record.specs.declared.node.Node.{Node}
+use Rattle.syntax.specs.declared.node.Node.{Node}
 use Rattle.record.specs.Nodes.{node_at, Holds}
 
 -- a tree has a node

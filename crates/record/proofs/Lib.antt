@@ -3,6 +3,7 @@ pub mod Asking
 pub mod Walking
 pub mod Holding
 pub mod Growing
+pub mod Stepping
 pub mod Receiving
 pub mod Decoding
 pub mod Deciding

@@ -1,8 +1,8 @@
 -- The table of nodes, and the tree that it holds. Assumes nothing.
 use Rattle.std.specs.Prelude.{◌≡◌, ℕ, ◌+◌, List, pos, slice_index_or}
 use Rattle.syntax.specs.Tree.{Tree, nodes, number, truth, variable, function, application, let_in, sum, at_most, if_else}
-use Rattle.record.specs.declared.node.Node.{Node}
-use Rattle.record.specs.declared.node.Node.TheVariants.{Number, Truth, Variable, Function, Application, LetIn, Sum, AtMost, IfElse}
+use Rattle.syntax.specs.declared.node.Node.{Node}
+use Rattle.syntax.specs.declared.node.Node.TheVariants.{Number, Truth, Variable, Function, Application, LetIn, Sum, AtMost, IfElse}
 
 abbrev pub node_at : List Node → ℕ → Node
 node_at ns i = slice_index_or ns i (Number (pos 0))

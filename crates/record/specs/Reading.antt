@@ -7,8 +7,9 @@ use Rattle.syntax.specs.Record.{encode, two_bytes, four_bytes, record_of}
 use Rattle.record.specs.declared.fault.RecordFault.{RecordFault}
 use Rattle.record.specs.declared.head.Head.{Head}
 use Rattle.record.specs.declared.head.Head.TheVariants.{Number, Truth, Variable, Function, Application, LetIn, Sum, AtMost, IfElse}
-use Rattle.record.specs.declared.node.Nodes.{Nodes}
-use Rattle.record.specs.declared.node.Received.{Received}
+use Rattle.record.specs.declared.reader.Reader.{Reader}
+use Rattle.record.specs.declared.received.Received.{Received}
+use Rattle.syntax.specs.declared.node.Node.{Node}
 use Rattle.record.specs.Bytes.{Stands}
 use Rattle.record.specs.Faults.{number_of, place_of}
 use Rattle.record.specs.Nodes.{node_at, Holds}
@@ -51,37 +52,37 @@ Opened s b n p (Ok h) = Opens s b n p h
 Opened s b n p (Err f) = asked s b n p ≡ some (number_of f, place_of f)
 
 -- a tree was read from place p to place e, and its nodes were put behind those that stood in the table
-pub record Grown (s : List ℕ) (b p : ℕ) (before after : Nodes) (t : Tree) (e : ℕ) : Type 0 where
-  pub counted : after.count ≡ before.count + nodes t
-  pub few : after.count ≤ 512
+pub record Grown (s : List ℕ) (b p : ℕ) (before after : List Node) (t : Tree) (e : ℕ) : Type 0 where
+  pub counted : length after ≡ length before + nodes t
+  pub few : length after ≤ 512
   pub ends : e ≡ p + length (encode t)
   pub bytes : Stands s p (encode t)
   pub proper : Proper b t
-  pub holds : Holds after.list before.count t
-  pub kept : (i : ℕ) → i < before.count → node_at after.list i ≡ node_at before.list i
+  pub holds : Holds after (length before) t
+  pub kept : (i : ℕ) → i < length before → node_at after i ≡ node_at before i
 
 -- one tree with b variables in force around it, or a refusal, whatever has to come behind the tree
-abbrev pub ReadsTree : List ℕ → ℕ → ℕ → Nodes → Nodes → Result ℕ RecordFault → Type 0
-ReadsTree s b p before after (Ok e) = (t : Tree) × Grown s b p before after t e
-ReadsTree s b p before after (Err f) = (more : List ℕ) → Refused s (b ∷ more) before.count p (number_of f) (place_of f)
+abbrev pub ReadsTree : ℕ → Reader → Reader → Result (Unit {0}) RecordFault → Type 0
+ReadsTree b before after (Ok u) = (after.bytes.now ≡ before.bytes.now) × (t : Tree) × Grown before.bytes.now b before.place before.nodes.items after.nodes.items t after.place
+ReadsTree b before after (Err f) = (more : List ℕ) → Refused before.bytes.now (b ∷ more) (length before.nodes.items) before.place (number_of f) (place_of f)
 
 -- two trees, the second with its root at node m
-pub record GrownTwice (s : List ℕ) (b c p : ℕ) (before after : Nodes) (t u : Tree) (m e : ℕ) : Type 0 where
-  pub second : m ≡ before.count + nodes t
-  pub counted : after.count ≡ before.count + (nodes t + nodes u)
-  pub few : after.count ≤ 512
+pub record GrownTwice (s : List ℕ) (b c p : ℕ) (before after : List Node) (t u : Tree) (m e : ℕ) : Type 0 where
+  pub second : m ≡ length before + nodes t
+  pub counted : length after ≡ length before + (nodes t + nodes u)
+  pub few : length after ≤ 512
   pub ends : e ≡ p + (length (encode t) + length (encode u))
   pub first_bytes : Stands s p (encode t)
   pub second_bytes : Stands s (p + length (encode t)) (encode u)
   pub first_proper : Proper b t
   pub second_proper : Proper c u
-  pub first_holds : Holds after.list before.count t
-  pub second_holds : Holds after.list (before.count + nodes t) u
-  pub kept : (i : ℕ) → i < before.count → node_at after.list i ≡ node_at before.list i
+  pub first_holds : Holds after (length before) t
+  pub second_holds : Holds after (length before + nodes t) u
+  pub kept : (i : ℕ) → i < length before → node_at after i ≡ node_at before i
 
-abbrev pub ReadsTwo : List ℕ → ℕ → ℕ → ℕ → Nodes → Nodes → Result (ℕ × ℕ) RecordFault → Type 0
-ReadsTwo s b c p before after (Ok r) = (t u : Tree) × GrownTwice s b c p before after t u r.0 r.1
-ReadsTwo s b c p before after (Err f) = (more : List ℕ) → Refused s (b ∷ c ∷ more) before.count p (number_of f) (place_of f)
+abbrev pub ReadsTwo : ℕ → ℕ → Reader → Reader → Result ℕ RecordFault → Type 0
+ReadsTwo b c before after (Ok m) = (after.bytes.now ≡ before.bytes.now) × (t u : Tree) × GrownTwice before.bytes.now b c before.place before.nodes.items after.nodes.items t u m after.place
+ReadsTwo b c before after (Err f) = (more : List ℕ) → Refused before.bytes.now (b ∷ c ∷ more) (length before.nodes.items) before.place (number_of f) (place_of f)
 
 -- the first four bytes are in order, or the first no
 abbrev pub Fronted : List ℕ → Result ℕ RecordFault → Type 0
@@ -90,8 +91,8 @@ Fronted s (Err f) = front s ≡ some (number_of f, place_of f)
 
 -- the table holds this tree and nothing else, and the tree may be sent
 pub record IsTree (r : Received) (t : Tree) : Type 0 where
-  pub holds : Holds r.nodes.list 0 t
-  pub counted : r.nodes.count ≡ nodes t
+  pub holds : Holds r.nodes.items 0 t
+  pub counted : length r.nodes.items ≡ nodes t
   pub sendable : Sendable r.readings t
 
 -- the bytes are the record of the tree received, or they are refused

@@ -10,7 +10,7 @@ pub(crate) fn two_bytes(bytes: &[u8], place: usize) -> usize
     ensures small { result < 65536 }
     ensures bytes { Stands bytes.now place (two_bytes result) }
 {
-    usize::from(bytes[place]) * 256 + usize::from(bytes[place + 1])
+    usize::from(u16::from_be_bytes([bytes[place], bytes[place + 1]]))
 }
 
 /// The number whose two's complement four bytes are.

@@ -51,12 +51,12 @@ impl RecordFault {
             RecordFault::Length => 0,
             RecordFault::Version => 2,
             RecordFault::Readings => 3,
-            RecordFault::NoNode(place) => place,
-            RecordFault::TooManyNodes(place) => place,
-            RecordFault::UnknownKind(place) => place,
-            RecordFault::CutShort(place) => place,
-            RecordFault::Unbound(place) => place,
-            RecordFault::Spare(place) => place,
+            RecordFault::NoNode(place)
+            | RecordFault::TooManyNodes(place)
+            | RecordFault::UnknownKind(place)
+            | RecordFault::CutShort(place)
+            | RecordFault::Unbound(place)
+            | RecordFault::Spare(place) => place,
         }
     }
 }

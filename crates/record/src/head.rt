@@ -1,17 +1,18 @@
 //! A node's own bytes, its children apart.
-ghost use Rattle.std.specs.Prelude.{◌≡◌, ◌<◌, ◌≤◌, length, slice_index};
-ghost use Rattle.record.specs.Reading.{Opened};
+ghost use Rattle.std.specs.Prelude.{◌≡◌, ◌+◌, ◌<◌, ◌≤◌, length, slice_index};
+ghost use Rattle.record.specs.Reading.{opening, Opened};
 
 use crate::bytes::{four_bytes, two_bytes};
 use crate::fault::RecordFault;
-use crate::node::MOST_NODES;
+use crate::reader::Reader;
+use syntax::kind::Kind;
 
 /// What a node is, before its children are read.
 #[derive(Clone, Copy)]
 pub(crate) enum Head {
     Number(i32),
     Truth(bool),
-    Variable(u32),
+    Variable(usize),
     Function,
     Application,
     LetIn,
@@ -20,61 +21,70 @@ pub(crate) enum Head {
     IfElse,
 }
 
-fn number(bytes: &[u8], bound: usize, count: usize, place: usize) -> Result<Head, RecordFault>
-    requires here { place < length bytes.now }
-    requires among { count < 512 }
-    requires kind { slice_index bytes.now place ≡ 1 }
-    ensures { Opened bytes.now bound count place result }
-{
-    if bytes.len() - place < 5 {
-        return Err(RecordFault::CutShort(bytes.len()));
+impl Head {
+    /// How many bytes it takes.
+    pub(crate) fn width(self) -> usize
+        ensures { result ≡ length (opening self) }
+    {
+        match self {
+            Head::Number(_) => 5,
+            Head::Variable(_) => 3,
+            _ => 1,
+        }
     }
-    Ok(Head::Number(four_bytes(bytes, place + 1)))
 }
 
-fn variable(bytes: &[u8], bound: usize, count: usize, place: usize) -> Result<Head, RecordFault>
-    requires here { place < length bytes.now }
-    requires among { count < 512 }
-    requires kind { slice_index bytes.now place ≡ 4 }
-    ensures { Opened bytes.now bound count place result }
-{
-    if bytes.len() - place < 3 {
-        return Err(RecordFault::CutShort(bytes.len()));
+impl Reader<'_> {
+    fn number(&self, bound: usize) -> Result<Head, RecordFault>
+        requires here { self.now.place < length self.now.bytes.now }
+        requires among { length self.now.nodes.items < 512 }
+        requires kind { slice_index self.now.bytes.now self.now.place ≡ 1 }
+        ensures { Opened self.now.bytes.now bound (length self.now.nodes.items) self.now.place result }
+    {
+        if self.bytes.len() - self.place < 5 {
+            return Err(RecordFault::CutShort(self.bytes.len()));
+        }
+        Ok(Head::Number(four_bytes(self.bytes, self.place + 1)))
     }
-    let distance = two_bytes(bytes, place + 1);
-    if distance >= bound {
-        return Err(RecordFault::Unbound(place));
-    }
-    Ok(Head::Variable(distance as u32))
-}
 
-/// The node that begins at a place, as the next after `count` others, with `bound` variables in force around it.
-pub(crate) fn open_node(
-    bytes: &[u8],
-    bound: usize,
-    count: usize,
-    place: usize,
-) -> Result<Head, RecordFault>
-    requires { place ≤ length bytes.now }
-    ensures { Opened bytes.now bound count place result }
-{
-    if place >= bytes.len() {
-        return Err(RecordFault::NoNode(place));
+    fn variable(&self, bound: usize) -> Result<Head, RecordFault>
+        requires here { self.now.place < length self.now.bytes.now }
+        requires among { length self.now.nodes.items < 512 }
+        requires kind { slice_index self.now.bytes.now self.now.place ≡ 4 }
+        ensures { Opened self.now.bytes.now bound (length self.now.nodes.items) self.now.place result }
+    {
+        if self.bytes.len() - self.place < 3 {
+            return Err(RecordFault::CutShort(self.bytes.len()));
+        }
+        let distance = two_bytes(self.bytes, self.place + 1);
+        if distance >= bound {
+            return Err(RecordFault::Unbound(self.place));
+        }
+        Ok(Head::Variable(distance))
     }
-    if count >= MOST_NODES {
-        return Err(RecordFault::TooManyNodes(place));
-    }
-    match bytes[place] {
-        1 => number(bytes, bound, count, place),
-        2 => Ok(Head::Truth(false)),
-        3 => Ok(Head::Truth(true)),
-        4 => variable(bytes, bound, count, place),
-        5 => Ok(Head::Function),
-        6 => Ok(Head::Application),
-        7 => Ok(Head::LetIn),
-        8 => Ok(Head::Sum),
-        9 => Ok(Head::AtMost),
-        10 => Ok(Head::IfElse),
-        _ => Err(RecordFault::UnknownKind(place)),
+
+    /// The node that begins here, with `bound` variables in force around it.
+    pub(crate) fn head(&self, bound: usize) -> Result<Head, RecordFault>
+        ensures { Opened self.now.bytes.now bound (length self.now.nodes.items) self.now.place result }
+    {
+        let Some(byte) = self.bytes.get(self.place) else {
+            return Err(RecordFault::NoNode(self.place));
+        };
+        if self.nodes.is_full() {
+            return Err(RecordFault::TooManyNodes(self.place));
+        }
+        match Kind::try_from(*byte) {
+            Ok(Kind::Number) => self.number(bound),
+            Ok(Kind::False) => Ok(Head::Truth(false)),
+            Ok(Kind::True) => Ok(Head::Truth(true)),
+            Ok(Kind::Variable) => self.variable(bound),
+            Ok(Kind::Function) => Ok(Head::Function),
+            Ok(Kind::Application) => Ok(Head::Application),
+            Ok(Kind::LetIn) => Ok(Head::LetIn),
+            Ok(Kind::Sum) => Ok(Head::Sum),
+            Ok(Kind::AtMost) => Ok(Head::AtMost),
+            Ok(Kind::IfElse) => Ok(Head::IfElse),
+            Err(_) => Err(RecordFault::UnknownKind(self.place)),
+        }
     }
 }

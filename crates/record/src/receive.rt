@@ -3,8 +3,8 @@ ghost use Rattle.record.specs.Reading.{Judged, Fronted};
 
 use crate::bytes::two_bytes;
 use crate::fault::RecordFault;
-use crate::node::{Nodes, Received};
-use crate::tree::tree;
+use crate::reader::Reader;
+use crate::received::Received;
 
 /// The count of readings, of a record whose first four bytes are in order.
 fn front(bytes: &[u8]) -> Result<usize, RecordFault>
@@ -27,8 +27,13 @@ pub fn receive(bytes: &[u8]) -> Result<Received, RecordFault>
     ensures { Judged bytes.now result }
 {
     let readings = front(bytes)?;
-    let mut nodes = Nodes::new();
-    let end = tree(bytes, readings, 4, &mut nodes)?;
+    let mut reader = Reader::new(bytes, 4);
+    reader.tree(readings)?;
+    let Reader {
+        bytes,
+        place: end,
+        nodes,
+    } = reader;
     if end < bytes.len() {
         return Err(RecordFault::Spare(end));
     }

@@ -1,14 +1,11 @@
--- A list in which every place holds one value.
-use Rattle.std.proofs.Common.{◌≡◌, ℕ, ◌+◌, ◌<◌, ◌≤◌, List, length, get_or, set, replicate, sym, ◌∙◌, arith, ext_get_or}
-use lib.ListN.{length-replicate}
-use Rattle.std.proofs.lemmas.List.{get_or-replicate}
-use Rattle.std.proofs.lemmas.List.Edits.{fill_by_more}
+-- A list that was filled with one value. Assumes nothing.
+use Rattle.std.proofs.Common.{◌≡◌, ℕ, List, [], ◌∷◌, length, replicate, refl, ap, ◌∙◌, subst}
+use Rattle.std.specs.List.{FoldsTo}
 
-module _ {X : Type 0} where
-  pub filled_more : (xs : List X) (i : ℕ) (y z : X) → z ≡ y → i < length xs → ((k : ℕ) → k < i → get_or xs k y ≡ y) → (k : ℕ) → k < i + 1 → get_or (set xs i z) k y ≡ y
-  filled_more xs i y z e h below = rw e (fill_by_more (λ _. y) xs i y h below)
+-- each element is what one call answered
+pub all_filled : {P X : Type 0} {R : P → X → P → Type 0} (y : X) → ((p : P) (x : X) (q : P) → R p x q → x ≡ y) → (p : P) (xs : List X) (q : P) → FoldsTo R p xs q → xs ≡ replicate (length xs) y
+all_filled y each p [] q h = refl
+all_filled y each p (x ∷ xs) q h = ap (λ z. z ∷ xs) (each p x h.0 h.1) ∙ ap (λ l. y ∷ l) (all_filled y each h.0 xs q h.2)
 
-  pub filled_all : (xs : List X) (n i : ℕ) (y : X) → length xs ≡ n → n ≤ i → ((k : ℕ) → k < i → get_or xs k y ≡ y) → xs ≡ replicate n y
-  filled_all xs n i y e f each =
-      let m : length xs ≡ length (replicate n y) = e ∙ sym (length-replicate n y) in
-      ext_get_or y xs (replicate n y) m (λ k h. let h' : k < i = omega arith in let h'' : k < n = omega arith in each k h' ∙ sym (get_or-replicate n k y y h''))
+pub filled : {P X : Type 0} {R : P → X → P → Type 0} (y : X) (n : ℕ) → ((p : P) (x : X) (q : P) → R p x q → x ≡ y) → (p : P) (xs : List X) (q : P) → length xs ≡ n → FoldsTo R p xs q → xs ≡ replicate n y
+filled y n each p xs q long h = all_filled y each p xs q h ∙ ap (λ k. replicate k y) long

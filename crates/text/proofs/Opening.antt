@@ -1,28 +1,54 @@
 -- Looking a name up among the open ones, from the newest. Assumes nothing.
-use Rattle.std.proofs.Common.{◌≡◌, ℕ, zero, suc, ◌+◌, ◌-◌, ◌<◌, ◌≤◌, true, false, List, ◌∷◌, length, refl, ap, ◌∙◌, arith}
-use mathlib.Core.Option.{some}
-use Rattle.grammar.specs.Names.{same, distance}
-use Rattle.grammar.specs.Reading.{part}
+use Rattle.std.proofs.Common.{◌≡◌, ℕ, suc, ◌+◌, Bool, true, false, cond, List, length, map, reverse, nat_lt, Some, None, sym, refl, ap, ◌∙◌, arith}
+use mathlib.Core.Option.{Option, some, none}
+use borrow.Author.Tests.{true-ltb, false-ltb}
+use Rattle.std.specs.List.{position, position_or_len}
+use Rattle.std.proofs.lemmas.List.{length-map, length-reverse}
+use Rattle.std.proofs.lemmas.List.Recursion.{is_position_or_len}
+use Rattle.grammar.specs.Names.{same, next, distance}
 use Rattle.grammar.specs.Token.{Name}
-use Rattle.book.proofs.Finding.{later, distance_here, distance_more}
-use Rattle.text.specs.Scopes.{part_at, opened}
-use Rattle.text.specs.declared.scope.Part.{Part}
+use Rattle.book.specs.Books.{Found}
+use Rattle.book.proofs.Finding.{distance-<}
+use Rattle.text.specs.Scopes.{open_names, Restored}
+use Rattle.text.specs.declared.scope.Scope.{Scope}
 
-module _ (s : List ℕ) (ps : List Part) (x : Name) where
-  newest : (i : ℕ) → 0 < i → opened s ps i ≡ part s (part_at ps (i - 1)).place (part_at ps (i - 1)).stop ∷ opened s ps (i - 1)
-  newest zero h = absurd (omega arith)
-  newest (suc i) h = let e : i ≡ suc i - 1 = omega arith in ap (λ n. part s (part_at ps n).place (part_at ps n).stop ∷ opened s ps n) e
+-- ── the first name that is another ──
 
-  pub open_here : (n i : ℕ) → 0 < i → i ≤ n → same x (part s (part_at ps (i - 1)).place (part_at ps (i - 1)).stop) ≡ true → distance (opened s ps n) x ≡ later (n - i) (distance (opened s ps i) x) → distance (opened s ps n) x ≡ some (n - 1 - (i - 1))
-  open_here n i h le e inv =
-      let z : n - i ≡ n - 1 - (i - 1) = omega arith in
-      inv ∙ ap (λ l. later (n - i) (distance l x)) (newest i h) ∙ distance_here (n - i) _ (opened s ps (i - 1)) x e ∙ ap some z
+abbrev or_all : ℕ → Option ℕ → ℕ
+or_all n none = n
+or_all n (some d) = d
 
-  pub open_on : (n i : ℕ) → 0 < i → i ≤ n → same x (part s (part_at ps (i - 1)).place (part_at ps (i - 1)).stop) ≡ false → distance (opened s ps n) x ≡ later (n - i) (distance (opened s ps i) x) → distance (opened s ps n) x ≡ later (n - (i - 1)) (distance (opened s ps (i - 1)) x)
-  open_on n i h le e inv =
-      let z : n - i + 1 ≡ n - (i - 1) = omega arith in
-      inv ∙ ap (λ l. later (n - i) (distance l x)) (newest i h) ∙ distance_more (n - i) _ (opened s ps (i - 1)) x e ∙ ap (λ m. later m (distance (opened s ps (i - 1)) x)) z
+or_all_next : (b : Bool) (n : ℕ) (o : Option ℕ) → or_all (suc n) (cond b (some 0) (next o)) ≡ cond b 0 (1 + or_all n o)
+or_all_next true n o = refl
+or_all_next false n none = omega arith
+or_all_next false n (some d) = omega arith
 
-  pub length_opened : (n : ℕ) → length (opened s ps n) ≡ n
-  length_opened zero = refl
-  length_opened (suc n) = ap suc (length_opened n)
+module _ {X : Type 0} (f : X → Name) (x : Name) where
+  counted : (xs : List X) → or_all (length xs) (distance (map f xs) x) ≡ position_or_len (λ y. same x (f y)) xs
+  counted = is_position_or_len (λ l. or_all (length l) (distance (map f l) x)) (λ y. same x (f y)) refl (λ y ys. or_all_next (same x (f y)) (length ys) (distance (map f ys) x))
+
+  found_first : (xs : List X) → Found (map f xs) x (position (λ y. same x (f y)) xs)
+  found_first xs = by (distance (map f xs) x) refl (nat_lt at (length xs)) refl
+    where
+      at : ℕ
+      at = position_or_len (λ y. same x (f y)) xs
+
+      here : (o : Option ℕ) → distance (map f xs) x ≡ o → at ≡ or_all (length xs) o
+      here o e = sym (counted xs) ∙ ap (or_all (length xs)) e
+
+      by : (o : Option ℕ) → distance (map f xs) x ≡ o → (b : Bool) → nat_lt at (length xs) ≡ b → Found (map f xs) x (cond b (Some at) None)
+      by none e true h = absurd (omega (arith, here none e, true-ltb at (length xs) (sym h)))
+      by none e false h = e
+      by (some d) e true h = e ∙ ap some (sym (here (some d) e))
+      by (some d) e false h = absurd (omega (arith, here (some d) e, false-ltb at (length xs) (sym h), distance-< (map f xs) x d e, length-map xs f))
+
+-- ── names that open and close ──
+
+pub first_open : (a : Scope) (x : Name) → Found (open_names a) x (position (λ y. same x y.now) (reverse a.names.items))
+first_open a x = found_first (λ y. y.now) x (reverse a.names.items)
+
+pub length_open : (a : Scope) → length (open_names a) ≡ length a.names.items
+length_open a = length-map (reverse a.names.items) (λ n. n.now) ∙ length-reverse a.names.items
+
+pub restored_names : (a b : Scope) → Restored a b → open_names b ≡ open_names a
+restored_names a b r = ap (λ l. map (λ n. n.now) (reverse l)) r

@@ -1,5 +1,5 @@
 -- From a tree in the table to the verdict on the text. Assumes nothing.
-use Rattle.std.proofs.Common.{◌≡◌, ℕ, ◌+◌, ◌%◌, ◌<◌, ◌≤◌, List, [], ◌∷◌, ◌++◌, length, drop, IsErrAnd, Ok, Err, Result, sym, ap, ◌∙◌, subst, ⊎_elim, arith}
+use Rattle.std.proofs.Common.{◌≡◌, ℕ, ◌+◌, ◌<◌, ◌≤◌, List, [], ◌∷◌, ◌++◌, length, drop, map, reverse, Ok, Err, Result, sym, ap, ◌∙◌, subst, ⊎_elim, arith}
 use Rattle.syntax.specs.Tree.{Tree, nodes}
 use Rattle.syntax.specs.Record.{encode, two_bytes, record_of}
 use Rattle.grammar.specs.Token.{Name}
@@ -7,40 +7,31 @@ use Rattle.grammar.specs.Verdict as verdict
 use Rattle.grammar.specs.Verdict.{Means, Verdict, refused}
 use Rattle.text.specs.declared.fault.CompileFault.{CompileFault}
 use Rattle.text.specs.declared.fault.CompileFault.TheVariants.{TooManyNodes, NoRoom}
-use Rattle.nodes.specs.declared.node.Table.{Table}
+use Rattle.nodes.specs.declared.table.Table.{Table}
 use Rattle.text.specs.declared.scope.Scope.{Scope}
 use Rattle.text.specs.Compiling.{Compiled, Held, Recorded}
 use Rattle.text.specs.Faults.{number, place}
 use Rattle.nodes.specs.Nodes.{Grown}
-use Rattle.text.specs.Scopes.{opened, open_names}
+use Rattle.text.specs.Scopes.{open_names}
 use Rattle.text.specs.Writing.{written}
 
--- the exit of a `?`
-pub exit_compile : (s : List ℕ) (book : List Name) (before after : List ℕ) (r : Result ℕ CompileFault) (f : CompileFault) → IsErrAnd r (λ y. y ≡ f) → Verdict book s (length before) (refused (number f) (place f)) → after ≡ before → Compiled s book before after r
-exit_compile s book before after (Ok n) f h v e = absurd h
-exit_compile s book before after (Err g) f h v e = (subst (λ x. Verdict book s (length before) (refused (number x) (place x))) (sym h) v, e)
-
 -- a table that began empty
-pub grown_held : (t₀ table : Table) (t : Tree) (root : ℕ) → (t₀.count ≡ 0) × (t₀.bytes ≡ 0) → Grown t₀ table t root → Held table t root
+pub grown_held : (t₀ table : Table) (t : Tree) (root : ℕ) → (t₀.nodes.items ≡ []) × (t₀.bytes ≡ 0) → Grown t₀ table t root → Held table t root
 grown_held t₀ table t root z g = record {
-  counted = omega (arith, g.counted, z.0);
+  counted = omega (arith, g.counted, ap length z.0);
   wide = λ h. omega (arith, g.wider h, z.1);
   inside = g.inside;
   holds = g.holds;
 }
 
-pub none_open : (s : List ℕ) (scope : Scope) → scope.count ≡ 0 → open_names s scope ≡ []
-none_open s scope e = ap (opened s scope.parts) e
-
-pub record_length : (readings : ℕ) (t : Tree) → length (record_of readings t) ≡ 4 + length (encode t)
-record_length readings t = omega arith
+pub none_open : (scope : Scope) → scope.names.items ≡ [] → open_names scope ≡ []
+none_open scope e = ap (λ l. map (λ n. n.now) (reverse l)) e
 
 -- the bytes that were written are the record
-pub record_bytes : (readings n : ℕ) (t : Tree) (out : List ℕ) → readings ≤ 8 → n ≡ length (encode t) → written out 0 (((two_bytes (2 + n) ++ 1 ∷ []) ++ (readings % 256) ∷ []) ++ encode t) ≡ record_of readings t ++ drop (4 + n) out
-record_bytes readings n t out few e =
-    let same : readings % 256 ≡ readings = omega arith in
+pub record_bytes : (readings n : ℕ) (t : Tree) (out : List ℕ) → n ≡ length (encode t) → written out 0 ((two_bytes (2 + n) ++ 1 ∷ readings ∷ []) ++ encode t) ≡ record_of readings t ++ drop (4 + n) out
+record_bytes readings n t out e =
     let all : 0 + length (record_of readings t) ≡ 4 + n = omega (arith, e) in
-    ap (λ m. written out 0 (((two_bytes (2 + m) ++ 1 ∷ []) ++ (readings % 256) ∷ []) ++ encode t)) e ∙ ap (λ k. written out 0 (((two_bytes (2 + length (encode t)) ++ 1 ∷ []) ++ k ∷ []) ++ encode t)) same ∙ ap (λ m. record_of readings t ++ drop m out) all
+    ap (λ m. written out 0 ((two_bytes (2 + m) ++ 1 ∷ readings ∷ []) ++ encode t)) e ∙ ap (λ m. record_of readings t ++ drop m out) all
 
 -- what the record came to, as the verdict
 pub recorded_verdict : (s : List ℕ) (book : List Name) (readings : ℕ) (t : Tree) (before after : List ℕ) (r : Result ℕ CompileFault) → readings ≡ length book → Means book s t → Recorded readings t before after r → Compiled s book before after r

@@ -6,8 +6,8 @@ use Rattle.grammar.specs.Token.{Name}
 use Rattle.grammar.specs.Verdict.{Verdict, refused, compiled}
 use Rattle.text.specs.declared.fault.CompileFault.{CompileFault}
 use Rattle.text.specs.declared.fault.CompileFault.TheVariants.{TooManyNodes, NoRoom}
-use Rattle.nodes.specs.declared.node.Table.{Table}
-use Rattle.nodes.specs.Nodes.{Holds}
+use Rattle.nodes.specs.declared.table.Table.{Table}
+use Rattle.nodes.specs.Nodes.{Holds, count}
 use Rattle.text.specs.Faults.{number, place}
 
 -- The verdict on the text, with its number and place. A record stands at the front of the buffer, and
@@ -18,10 +18,10 @@ Compiled s book before after (Err f) = Verdict book s (length before) (refused (
 
 -- a table holds the tree at its root, as far as it has room
 pub record Held (table : Table) (t : Tree) (root : ℕ) : Type 0 where
-  pub counted : table.count ≡ min (nodes t) 513
-  pub wide : table.count ≤ 512 → table.bytes ≡ length (encode t)
-  pub inside : table.count ≤ 512 → root < table.count
-  pub holds : table.count ≤ 512 → Holds table.nodes root t
+  pub counted : count table ≡ min (nodes t) 513
+  pub wide : count table ≤ 512 → table.bytes ≡ length (encode t)
+  pub inside : count table ≤ 512 → root < count table
+  pub holds : count table ≤ 512 → Holds table.nodes.items root t
 
 -- the record of a tree that was read, or why there is none
 abbrev pub Recorded : ℕ → Tree → List ℕ → List ℕ → Result ℕ CompileFault → Type 0

@@ -1,4 +1,5 @@
 pub mod Scopes
+pub mod Standing
 pub mod Faults
 pub mod Parsing
 pub mod Writing

@@ -7,10 +7,13 @@ ghost use Rattle.text.specs.Compiling.{Compiled, Held, Recorded};
 use crate::fault::CompileFault;
 use crate::parser::Parser;
 use crate::scope::Scope;
-use crate::write::{put, put_two, write};
-use book::name::Book;
-use lexer::token::{Placed, Token};
-use nodes::node::{MOST_NODES, Table};
+use crate::write::{Writer, two_bytes};
+use book::book::Book;
+use nodes::table::Table;
+use syntax::limits::MOST_NODES;
+
+/// The version of records.
+const VERSION: u8 = 1;
 
 /// How many bytes a text may have.
 const MOST_TEXT: usize = 4_096;
@@ -30,23 +33,12 @@ pub fn compile(text: &[u8], book: &Book, out: &mut [u8]) -> Result<usize, Compil
     if is_too_long(text) {
         return Err(CompileFault::TooLong);
     }
-    let current = Placed {
-        token: Token::End,
-        place: 0,
-        stop: 0,
-    };
-    let mut parser = Parser {
-        current,
-        table: Table::new(),
-    };
-    parser.advance(text)?;
-    let mut scope = Scope::new();
-    let root = parser.expr(text, book, &mut scope)?;
-    let Parser { current, table } = parser;
-    if !current.token.is_end() {
-        return Err(CompileFault::Unexpected(current.place));
+    let mut parser = Parser::new(text, book)?;
+    let root = parser.expr(&mut Scope::new())?;
+    if !parser.current.token.is_end() {
+        return Err(CompileFault::Unexpected(parser.current.place));
     }
-    record(&table, root, book.readings(), out)
+    record(&parser.table, root, book.readings(), out)
 }
 
 fn fits(length: usize, room: usize) -> bool
@@ -66,16 +58,16 @@ fn record(
     requires held { (t : Tree) × Held table.now t root }
     ensures { (t : Tree) → Held table.now t root → Recorded readings t out.old out.new result }
 {
-    if table.count > MOST_NODES {
+    if table.nodes.len() > MOST_NODES {
         return Err(CompileFault::TooManyNodes);
     }
     let length = 4 + table.bytes;
     if !fits(length, out.len()) {
         return Err(CompileFault::NoRoom);
     }
-    let at = put_two(out, 0, 2 + table.bytes);
-    let at = put(out, at, 1);
-    let at = put(out, at, (readings % 256) as u8);
-    write(&table.nodes, root, out, at);
+    let mut writer = Writer { out, at: 0 };
+    writer.put(&two_bytes(2 + table.bytes));
+    writer.put(&[VERSION, readings as u8]);
+    writer.tree(table.nodes.as_slice(), root);
     Ok(length)
 }

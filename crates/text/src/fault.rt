@@ -3,7 +3,7 @@
 use lexer::fault::LexFault;
 
 /// Why a text has no record.
-#[derive(Clone, Copy, Debug)]
+#[derive(Clone, Copy, PartialEq, Eq, Debug)]
 pub enum CompileFault {
     /// More than 4,096 bytes: refusal 51, at place 0.
     TooLong,

@@ -35,10 +35,9 @@ impl CompileFault {
         ensures { result ≡ Rattle.text.specs.Faults.place self.now }
     {
         match self {
-            CompileFault::Lex(LexFault::NoToken(place)) => *place,
-            CompileFault::Lex(LexFault::OutOfRange(place)) => *place,
-            CompileFault::Unexpected(place) => *place,
-            CompileFault::Unknown(place) => *place,
+            CompileFault::Lex(LexFault::NoToken(place) | LexFault::OutOfRange(place))
+            | CompileFault::Unexpected(place)
+            | CompileFault::Unknown(place) => *place,
             CompileFault::TooLong | CompileFault::TooManyNodes | CompileFault::NoRoom => 0,
         }
     }

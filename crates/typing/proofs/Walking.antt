@@ -1,23 +1,22 @@
 -- A tree's conditions from those of its root and its children, call by call. Assumes nothing.
-use Rattle.std.proofs.Common.{◌≡◌, ℕ, ◌+◌, ◌*◌, ◌<◌, ◌≤◌, Bool, true, false, List, ◌∷◌, length, Some, Ok, Err, Option, Result, sym, subst, arith}
+use Rattle.std.proofs.Common.{Bor, ap, ◌≡◌, ℕ, ◌+◌, ◌*◌, ◌<◌, ◌≤◌, List, ◌∷◌, length, Some, Ok, Err, Option, Result, sym, subst, arith}
 use Rattle.syntax.specs.Tree.{Tree, nodes}
-use Rattle.record.specs.declared.node.Node.{Node}
+use Rattle.syntax.specs.declared.node.Node.{Node}
+use Rattle.record.specs.declared.received.Received.{Received}
 use Rattle.record.specs.Nodes.{node_at}
 use Rattle.record.proofs.Holding.{some_node}
 use Rattle.store.specs.Lists.{Lists}
-use Rattle.typing.specs.declared.under.Under.TheVariants.{Nothing, Body, Two, Bound, Three}
+use Rattle.typing.specs.declared.clash.Clash.{Clash}
+use Rattle.typing.specs.declared.clash.Unmet.{Unmet}
 use Rattle.typing.specs.Asked.{AllBelow, NodeFits, TreeTried}
 use Rattle.typing.specs.Classes.{Sound}
 use Rattle.typing.specs.Finite.{Finite}
 use Rattle.typing.specs.InForce.{InForce, NodeTried, Spent, SpentOn, RoomFor, Walked}
-use Rattle.typing.specs.Under.{under_of}
+use Rattle.typing.proofs.Under.{Nothing, Body, Two, Bound, Three, under_of}
 use Rattle.typing.proofs.Composing.{TwoOf, BoundOf, ThreeOf, leaf_inv, body_inv, two_inv, bound_inv, three_inv, refused_here, added_leaf, added_body, refused_body, added_two, refused_first, refused_second, added_three, refused_left, refused_middle, refused_right}
 use Rattle.typing.proofs.Descending.{root_fits, body_in_force, left_in_force, right_in_force, bound_in_force, let_in_force, first_in_force, second_in_force, third_in_force}
 
 -- ── room ──
-
-spent_more : (before after : Lists ℕ) (room room' k m : ℕ) → k ≤ m → Spent before after room room' k → Spent before after room room' m
-spent_more before after room room' k m le h = record { kept = h.kept; left = omega (arith, h.left) }
 
 pub spent_twice : (before mid after : Lists ℕ) (room mid_room room' k l m : ℕ) → k + l ≤ m → Spent before mid room mid_room k → Spent mid after mid_room room' l → Spent before after room room' m
 spent_twice before mid after room mid_room room' k l m le g h =
@@ -29,8 +28,8 @@ module _ (ns : List Node) (n r env i room : ℕ) (before : Lists ℕ) (force : R
   pub root_inside : i < n
   root_inside = let a = some_node force.0 in let b = force.2.within in omega arith
 
-  pub root_known : (ps : List ℕ) × (before env ≡ Some ps) × AllBelow (2 * n + 2) ps × NodeFits n (length ps + r) (node_at ns i)
-  root_known = (force.1, force.2.known, force.2.below, root_fits ns n (length force.1 + r) i force.0 force.2.holds force.2.within force.2.proper)
+  pub root_known : (ps : List ℕ) × (before env ≡ Some ps) × AllBelow (2 * n + 2) ps × NodeFits n (length ps + r) (node_at ns i) × (length ps + r ≤ i + 8)
+  root_known = (force.1, force.2.known, force.2.below, root_fits ns n (length force.1 + r) i force.0 force.2.holds force.2.within force.2.proper, force.2.shallow)
 
   pub some_room : 1 ≤ room
   some_room = let a = some_node force.0 in let b = force.3 in omega arith
@@ -129,14 +128,14 @@ module _ (ns : List Node) (n r env i room : ℕ) (before : Lists ℕ) (force : R
 -- ── what the calls come to ──
 
 module _ (ns : List Node) (n r env i : ℕ) (f s f₁ s₁ : List ℕ) (before : Lists ℕ) (room : ℕ) where
-  abbrev TriedHere : Bool → Type 0
+  abbrev TriedHere : Result (Unit {0}) Clash → Type 0
   TriedHere b = (ps : List ℕ) → before env ≡ Some ps → NodeTried n r ps f s f₁ s₁ i (node_at ns i) b
 
-  pub walked_refused : (f' s' : List ℕ) (after : Lists ℕ) (room' : ℕ) → Sound (2 * n) f s → Finite (2 * n) f s → TriedHere false → Walked ns n r env i f s f' s' before after room room' (Err i)
-  walked_refused f' s' after room' sound finite here =
+  pub walked_refused : (clash : Clash) (f' s' : List ℕ) (after : Lists ℕ) (room' : ℕ) → Sound (2 * n) f s → Finite (2 * n) f s → TriedHere (Err clash) → Walked ns n r env i f s f' s' before after room room' (Err (record { node = i }))
+  walked_refused clash f' s' after room' sound finite here =
       record { tried = λ t ps force. refused_here n r ps f s f₁ s₁ ns i t force.holds (some_node t) sound finite (here ps force.known); spent = λ t ps force. tt }
 
-  module _ (here : TriedHere true) where
+  module _ (here : TriedHere (Ok tt)) where
     inside : (t : Tree) (ps : List ℕ) → InForce ns n r (before env) i t ps → i ≤ n
     inside t ps force = let a = force.within in omega arith
 
@@ -147,7 +146,7 @@ module _ (ns : List Node) (n r env i : ℕ) (f s f₁ s₁ : List ℕ) (before :
           spent = λ t ps force. record { kept = λ h l e. e; left = omega arith };
         }
 
-    pub walked_body : (x inner : ℕ) (f₂ s₂ : List ℕ) (mid after : Lists ℕ) (mid_room room' : ℕ) (answer : Result (Unit {0}) ℕ) → under_of (node_at ns i) ≡ Body x
+    pub walked_body : (x inner : ℕ) (f₂ s₂ : List ℕ) (mid after : Lists ℕ) (mid_room room' : ℕ) (answer : Result (Unit {0}) Unmet) → under_of (node_at ns i) ≡ Body x
         → ((ps : List ℕ) → before env ≡ Some ps → mid inner ≡ Some ((n + i) ∷ ps)) → Spent before mid room mid_room 1
         → Walked ns n r inner x f₁ s₁ f₂ s₂ mid after mid_room room' answer → Walked ns n r env i f s f₂ s₂ before after room room' answer
     walked_body x inner f₂ s₂ mid after mid_room room' (Ok u) is made paid w =
@@ -163,36 +162,36 @@ module _ (ns : List Node) (n r env i : ℕ) (f s f₁ s₁ : List ℕ) (before :
               let size = b.1.size in
               spent_twice before mid after room mid_room room' 1 (nodes b.0) (nodes t) (omega arith) paid (child.spent b.0 ((n + i) ∷ ps) (body_in_force ns n r (before env) i t ps force b.0 x (mid inner) b.1 (made ps force.known)));
         }
-    walked_body x inner f₂ s₂ mid after mid_room room' (Err j) is made paid w =
+    walked_body x inner f₂ s₂ mid after mid_room room' (Err unmet) is made paid w =
         record {
           tried = λ t ps force.
               let b = body_inv ns i t x force.holds is in
               let own = here ps force.known in
-              let child = subst (λ y. Walked ns n r inner y f₁ s₁ f₂ s₂ mid after mid_room room' (Err j)) b.1.child w in
-              refused_body n r ps f s f₁ s₁ ns i t force.holds own.0 f₂ s₂ b.0 x j b.1 (child.tried b.0 ((n + i) ∷ ps) (body_in_force ns n r (before env) i t ps force b.0 x (mid inner) b.1 (made ps force.known)));
+              let child = subst (λ y. Walked ns n r inner y f₁ s₁ f₂ s₂ mid after mid_room room' (Err unmet)) b.1.child w in
+              refused_body n r ps f s f₁ s₁ ns i t force.holds own.0 f₂ s₂ b.0 x unmet.node b.1 (child.tried b.0 ((n + i) ∷ ps) (body_in_force ns n r (before env) i t ps force b.0 x (mid inner) b.1 (made ps force.known)));
           spent = λ t ps force. tt;
         }
 
     -- the first of two children refused
-    pub walked_left_refused : (x y : ℕ) (f₂ s₂ : List ℕ) (after : Lists ℕ) (room' j : ℕ) → under_of (node_at ns i) ≡ Two x y → Walked ns n r env x f₁ s₁ f₂ s₂ before after room room' (Err j) → Walked ns n r env i f s f₂ s₂ before after room room' (Err j)
-    walked_left_refused x y f₂ s₂ after room' j is w =
+    pub walked_left_refused : (x y : ℕ) (f₂ s₂ : List ℕ) (after : Lists ℕ) (room' : ℕ) (unmet : Unmet) → under_of (node_at ns i) ≡ Two x y → Walked ns n r env x f₁ s₁ f₂ s₂ before after room room' (Err unmet) → Walked ns n r env i f s f₂ s₂ before after room room' (Err unmet)
+    walked_left_refused x y f₂ s₂ after room' unmet is w =
         record {
           tried = λ t ps force.
               let b = two_inv ns i t x y force.holds is in
               let own = here ps force.known in
-              let child = subst (λ z. Walked ns n r env z f₁ s₁ f₂ s₂ before after room room' (Err j)) b.2.left w in
-              refused_first n r ps f s f₁ s₁ ns i t force.holds own.0 ps b.0 b.1 b.2.size (λ θ k m. b.2.split _ _ k m) (λ θ k a m o. b.2.join _ _ k a m o) j (child.tried b.0 ps (left_in_force ns n r (before env) i t ps force b.0 b.1 x y b.2));
+              let child = subst (λ z. Walked ns n r env z f₁ s₁ f₂ s₂ before after room room' (Err unmet)) b.2.left w in
+              refused_first n r ps f s f₁ s₁ ns i t force.holds own.0 ps b.0 b.1 b.2.size (λ θ k m. b.2.split _ _ k m) (λ θ k a m o. b.2.join _ _ k a m o) unmet.node (child.tried b.0 ps (left_in_force ns n r (before env) i t ps force b.0 b.1 x y b.2));
           spent = λ t ps force. tt;
         }
 
-    pub walked_bound_refused : (x y : ℕ) (f₂ s₂ : List ℕ) (after : Lists ℕ) (room' j : ℕ) → under_of (node_at ns i) ≡ Bound x y → Walked ns n r env x f₁ s₁ f₂ s₂ before after room room' (Err j) → Walked ns n r env i f s f₂ s₂ before after room room' (Err j)
-    walked_bound_refused x y f₂ s₂ after room' j is w =
+    pub walked_bound_refused : (x y : ℕ) (f₂ s₂ : List ℕ) (after : Lists ℕ) (room' : ℕ) (unmet : Unmet) → under_of (node_at ns i) ≡ Bound x y → Walked ns n r env x f₁ s₁ f₂ s₂ before after room room' (Err unmet) → Walked ns n r env i f s f₂ s₂ before after room room' (Err unmet)
+    walked_bound_refused x y f₂ s₂ after room' unmet is w =
         record {
           tried = λ t ps force.
               let b = bound_inv ns i t x y force.holds is in
               let own = here ps force.known in
-              let child = subst (λ z. Walked ns n r env z f₁ s₁ f₂ s₂ before after room room' (Err j)) b.2.left w in
-              refused_first n r ps f s f₁ s₁ ns i t force.holds own.0 ((i + 1) ∷ ps) b.0 b.1 b.2.size (λ θ k m. b.2.split _ _ k m) (λ θ k a m o. b.2.join _ _ k a m o) j (child.tried b.0 ps (bound_in_force ns n r (before env) i t ps force b.0 b.1 x y b.2));
+              let child = subst (λ z. Walked ns n r env z f₁ s₁ f₂ s₂ before after room room' (Err unmet)) b.2.left w in
+              refused_first n r ps f s f₁ s₁ ns i t force.holds own.0 ((i + 1) ∷ ps) b.0 b.1 b.2.size (λ θ k m. b.2.split _ _ k m) (λ θ k a m o. b.2.join _ _ k a m o) unmet.node (child.tried b.0 ps (bound_in_force ns n r (before env) i t ps force b.0 b.1 x y b.2));
           spent = λ t ps force. tt;
         }
 
@@ -209,22 +208,22 @@ module _ (ns : List Node) (n r env i : ℕ) (f s f₁ s₁ : List ℕ) (before :
           right_force : InForce ns n r (mid env) (i + (1 + nodes b.0)) b.1 ps
           right_force = right_in_force ns n r (before env) i t ps force b.0 b.1 x y (mid env) b.2 (left_paid.kept env ps force.known)
 
-        tried_two : (answer : Result (Unit {0}) ℕ) → Walked ns n r env y f₂ s₂ f₃ s₃ mid after mid_room room' answer → (t : Tree) (ps : List ℕ) (force : InForce ns n r (before env) i t ps) (b : (u v : Tree) × TwoOf ns i t u v x y) → TreeTried n r ps f s f₃ s₃ i t answer
+        tried_two : (answer : Result (Unit {0}) Unmet) → Walked ns n r env y f₂ s₂ f₃ s₃ mid after mid_room room' answer → (t : Tree) (ps : List ℕ) (force : InForce ns n r (before env) i t ps) (b : (u v : Tree) × TwoOf ns i t u v x y) → TreeTried n r ps f s f₃ s₃ i t answer
         tried_two (Ok u) w t ps force b =
             let child = subst (λ z. Walked ns n r env z f₂ s₂ f₃ s₃ mid after mid_room room' (Ok u)) b.2.right w in
             added_two n r ps f s f₁ s₁ ns i t force.holds (here ps force.known).0 ps b.0 b.1 b.2.size (λ θ k m. b.2.split _ _ k m) (λ θ k a m o. b.2.join _ _ k a m o) f₂ s₂ f₃ s₃ (inside t ps force) (left_tried t ps force b) (child.tried b.1 ps (right_force t ps force b))
-        tried_two (Err j) w t ps force b =
-            let child = subst (λ z. Walked ns n r env z f₂ s₂ f₃ s₃ mid after mid_room room' (Err j)) b.2.right w in
-            refused_second n r ps f s f₁ s₁ ns i t force.holds (here ps force.known).0 ps b.0 b.1 b.2.size (λ θ k m. b.2.split _ _ k m) (λ θ k a m o. b.2.join _ _ k a m o) f₂ s₂ j (left_tried t ps force b) (child.tried b.1 ps (right_force t ps force b))
+        tried_two (Err unmet) w t ps force b =
+            let child = subst (λ z. Walked ns n r env z f₂ s₂ f₃ s₃ mid after mid_room room' (Err unmet)) b.2.right w in
+            refused_second n r ps f s f₁ s₁ ns i t force.holds (here ps force.known).0 ps b.0 b.1 b.2.size (λ θ k m. b.2.split _ _ k m) (λ θ k a m o. b.2.join _ _ k a m o) f₂ s₂ unmet.node (left_tried t ps force b) (child.tried b.1 ps (right_force t ps force b))
 
-        spent_two : (answer : Result (Unit {0}) ℕ) → Walked ns n r env y f₂ s₂ f₃ s₃ mid after mid_room room' answer → (t : Tree) (ps : List ℕ) (force : InForce ns n r (before env) i t ps) (b : (u v : Tree) × TwoOf ns i t u v x y) → SpentOn before after room room' (nodes t) answer
+        spent_two : (answer : Result (Unit {0}) Unmet) → Walked ns n r env y f₂ s₂ f₃ s₃ mid after mid_room room' answer → (t : Tree) (ps : List ℕ) (force : InForce ns n r (before env) i t ps) (b : (u v : Tree) × TwoOf ns i t u v x y) → SpentOn before after room room' (nodes t) answer
         spent_two (Ok u) w t ps force b =
             let child = subst (λ z. Walked ns n r env z f₂ s₂ f₃ s₃ mid after mid_room room' (Ok u)) b.2.right w in
             let size = b.2.size in
             spent_twice before mid after room mid_room room' (nodes b.0) (nodes b.1) (nodes t) (omega arith) (left_paid t ps force b) (child.spent b.1 ps (right_force t ps force b))
-        spent_two (Err j) w t ps force b = tt
+        spent_two (Err unmet) w t ps force b = tt
 
-        pub walked_two : (answer : Result (Unit {0}) ℕ) → Walked ns n r env y f₂ s₂ f₃ s₃ mid after mid_room room' answer → Walked ns n r env i f s f₃ s₃ before after room room' answer
+        pub walked_two : (answer : Result (Unit {0}) Unmet) → Walked ns n r env y f₂ s₂ f₃ s₃ mid after mid_room room' answer → Walked ns n r env i f s f₃ s₃ before after room room' answer
         walked_two answer w = record { tried = λ t ps force. tried_two answer w t ps force (two_inv ns i t x y force.holds is); spent = λ t ps force. spent_two answer w t ps force (two_inv ns i t x y force.holds is) }
 
       -- a let: its variable is in force in its body
@@ -239,35 +238,35 @@ module _ (ns : List Node) (n r env i : ℕ) (f s f₁ s₁ : List ℕ) (before :
           body_force : InForce ns n r (late inner) (i + (1 + nodes b.0)) b.1 ((i + 1) ∷ ps)
           body_force = let_in_force ns n r (before env) i t ps force b.0 b.1 x y (late inner) b.2 (subst (λ z. late inner ≡ Some (z ∷ ps)) b.2.left (made ps (bound_paid.kept env ps force.known)))
 
-        tried_let : (answer : Result (Unit {0}) ℕ) → Walked ns n r inner y f₂ s₂ f₃ s₃ late after late_room room' answer → (t : Tree) (ps : List ℕ) (force : InForce ns n r (before env) i t ps) (b : (u v : Tree) × BoundOf ns i t u v x y) → TreeTried n r ps f s f₃ s₃ i t answer
+        tried_let : (answer : Result (Unit {0}) Unmet) → Walked ns n r inner y f₂ s₂ f₃ s₃ late after late_room room' answer → (t : Tree) (ps : List ℕ) (force : InForce ns n r (before env) i t ps) (b : (u v : Tree) × BoundOf ns i t u v x y) → TreeTried n r ps f s f₃ s₃ i t answer
         tried_let (Ok u) w t ps force b =
             let child = subst (λ z. Walked ns n r inner z f₂ s₂ f₃ s₃ late after late_room room' (Ok u)) b.2.right w in
             added_two n r ps f s f₁ s₁ ns i t force.holds (here ps force.known).0 ((i + 1) ∷ ps) b.0 b.1 b.2.size (λ θ k m. b.2.split _ _ k m) (λ θ k a m o. b.2.join _ _ k a m o) f₂ s₂ f₃ s₃ (inside t ps force) (bound_tried t ps force b) (child.tried b.1 ((i + 1) ∷ ps) (body_force t ps force b))
-        tried_let (Err j) w t ps force b =
-            let child = subst (λ z. Walked ns n r inner z f₂ s₂ f₃ s₃ late after late_room room' (Err j)) b.2.right w in
-            refused_second n r ps f s f₁ s₁ ns i t force.holds (here ps force.known).0 ((i + 1) ∷ ps) b.0 b.1 b.2.size (λ θ k m. b.2.split _ _ k m) (λ θ k a m o. b.2.join _ _ k a m o) f₂ s₂ j (bound_tried t ps force b) (child.tried b.1 ((i + 1) ∷ ps) (body_force t ps force b))
+        tried_let (Err unmet) w t ps force b =
+            let child = subst (λ z. Walked ns n r inner z f₂ s₂ f₃ s₃ late after late_room room' (Err unmet)) b.2.right w in
+            refused_second n r ps f s f₁ s₁ ns i t force.holds (here ps force.known).0 ((i + 1) ∷ ps) b.0 b.1 b.2.size (λ θ k m. b.2.split _ _ k m) (λ θ k a m o. b.2.join _ _ k a m o) f₂ s₂ unmet.node (bound_tried t ps force b) (child.tried b.1 ((i + 1) ∷ ps) (body_force t ps force b))
 
-        spent_let : (answer : Result (Unit {0}) ℕ) → Walked ns n r inner y f₂ s₂ f₃ s₃ late after late_room room' answer → (t : Tree) (ps : List ℕ) (force : InForce ns n r (before env) i t ps) (b : (u v : Tree) × BoundOf ns i t u v x y) → SpentOn before after room room' (nodes t) answer
+        spent_let : (answer : Result (Unit {0}) Unmet) → Walked ns n r inner y f₂ s₂ f₃ s₃ late after late_room room' answer → (t : Tree) (ps : List ℕ) (force : InForce ns n r (before env) i t ps) (b : (u v : Tree) × BoundOf ns i t u v x y) → SpentOn before after room room' (nodes t) answer
         spent_let (Ok u) w t ps force b =
             let child = subst (λ z. Walked ns n r inner z f₂ s₂ f₃ s₃ late after late_room room' (Ok u)) b.2.right w in
             let size = b.2.size in
             spent_twice before mid after room mid_room room' (nodes b.0) (1 + nodes b.1) (nodes t) (omega arith) (bound_paid t ps force b)
             (spent_twice mid late after mid_room late_room room' 1 (nodes b.1) (1 + nodes b.1) (omega arith) bought (child.spent b.1 ((i + 1) ∷ ps) (body_force t ps force b)))
-        spent_let (Err j) w t ps force b = tt
+        spent_let (Err unmet) w t ps force b = tt
 
-        pub walked_let : (answer : Result (Unit {0}) ℕ) → Walked ns n r inner y f₂ s₂ f₃ s₃ late after late_room room' answer → Walked ns n r env i f s f₃ s₃ before after room room' answer
+        pub walked_let : (answer : Result (Unit {0}) Unmet) → Walked ns n r inner y f₂ s₂ f₃ s₃ late after late_room room' answer → Walked ns n r env i f s f₃ s₃ before after room room' answer
         walked_let answer w = record { tried = λ t ps force. tried_let answer w t ps force (bound_inv ns i t x y force.holds is); spent = λ t ps force. spent_let answer w t ps force (bound_inv ns i t x y force.holds is) }
 
     -- three children
     module _ (x y z : ℕ) (is : under_of (node_at ns i) ≡ Three x y z) where
-      pub walked_first_refused : (f₂ s₂ : List ℕ) (after : Lists ℕ) (room' j : ℕ) → Walked ns n r env x f₁ s₁ f₂ s₂ before after room room' (Err j) → Walked ns n r env i f s f₂ s₂ before after room room' (Err j)
-      walked_first_refused f₂ s₂ after room' j w =
+      pub walked_first_refused : (f₂ s₂ : List ℕ) (after : Lists ℕ) (room' : ℕ) (unmet : Unmet) → Walked ns n r env x f₁ s₁ f₂ s₂ before after room room' (Err unmet) → Walked ns n r env i f s f₂ s₂ before after room room' (Err unmet)
+      walked_first_refused f₂ s₂ after room' unmet w =
           record {
             tried = λ t ps force.
                 let b = three_inv ns i t x y z force.holds is in
                 let own = here ps force.known in
-                let child = subst (λ c. Walked ns n r env c f₁ s₁ f₂ s₂ before after room room' (Err j)) b.3.left w in
-                refused_left n r ps f s f₁ s₁ ns i t force.holds own.0 b.0 b.1 b.2 x y z b.3 j (child.tried b.0 ps (first_in_force ns n r (before env) i t ps force b.0 b.1 b.2 x y z b.3));
+                let child = subst (λ c. Walked ns n r env c f₁ s₁ f₂ s₂ before after room room' (Err unmet)) b.3.left w in
+                refused_left n r ps f s f₁ s₁ ns i t force.holds own.0 b.0 b.1 b.2 x y z b.3 unmet.node (child.tried b.0 ps (first_in_force ns n r (before env) i t ps force b.0 b.1 b.2 x y z b.3));
             spent = λ t ps force. tt;
           }
 
@@ -282,13 +281,13 @@ module _ (ns : List Node) (n r env i : ℕ) (f s f₁ s₁ : List ℕ) (before :
           force_two : InForce ns n r (mid env) (i + (1 + nodes b.0)) b.1 ps
           force_two = second_in_force ns n r (before env) i t ps force b.0 b.1 b.2 x y z (mid env) b.3 (paid_one.kept env ps force.known)
 
-        pub walked_second_refused : (f₃ s₃ : List ℕ) (after : Lists ℕ) (room' j : ℕ) → Walked ns n r env y f₂ s₂ f₃ s₃ mid after mid_room room' (Err j) → Walked ns n r env i f s f₃ s₃ before after room room' (Err j)
-        walked_second_refused f₃ s₃ after room' j w =
+        pub walked_second_refused : (f₃ s₃ : List ℕ) (after : Lists ℕ) (room' : ℕ) (unmet : Unmet) → Walked ns n r env y f₂ s₂ f₃ s₃ mid after mid_room room' (Err unmet) → Walked ns n r env i f s f₃ s₃ before after room room' (Err unmet)
+        walked_second_refused f₃ s₃ after room' unmet w =
             record {
               tried = λ t ps force.
                   let b = three_inv ns i t x y z force.holds is in
-                  let child = subst (λ c. Walked ns n r env c f₂ s₂ f₃ s₃ mid after mid_room room' (Err j)) b.3.middle w in
-                  refused_middle n r ps f s f₁ s₁ ns i t force.holds (here ps force.known).0 b.0 b.1 b.2 x y z b.3 f₂ s₂ j (one t ps force b) (child.tried b.1 ps (force_two t ps force b));
+                  let child = subst (λ c. Walked ns n r env c f₂ s₂ f₃ s₃ mid after mid_room room' (Err unmet)) b.3.middle w in
+                  refused_middle n r ps f s f₁ s₁ ns i t force.holds (here ps force.known).0 b.0 b.1 b.2 x y z b.3 f₂ s₂ unmet.node (one t ps force b) (child.tried b.1 ps (force_two t ps force b));
               spent = λ t ps force. tt;
             }
 
@@ -303,21 +302,39 @@ module _ (ns : List Node) (n r env i : ℕ) (f s f₁ s₁ : List ℕ) (before :
             force_three : InForce ns n r (late env) (i + (1 + (nodes b.0 + nodes b.1))) b.2 ps
             force_three = third_in_force ns n r (before env) i t ps force b.0 b.1 b.2 x y z (late env) b.3 (paid_two.kept env ps ((paid_one t ps force b).kept env ps force.known))
 
-          tried_three : (answer : Result (Unit {0}) ℕ) → Walked ns n r env z f₃ s₃ f₄ s₄ late after late_room room' answer → (t : Tree) (ps : List ℕ) (force : InForce ns n r (before env) i t ps) (b : (u v w : Tree) × ThreeOf ns i t u v w x y z) → TreeTried n r ps f s f₄ s₄ i t answer
+          tried_three : (answer : Result (Unit {0}) Unmet) → Walked ns n r env z f₃ s₃ f₄ s₄ late after late_room room' answer → (t : Tree) (ps : List ℕ) (force : InForce ns n r (before env) i t ps) (b : (u v w : Tree) × ThreeOf ns i t u v w x y z) → TreeTried n r ps f s f₄ s₄ i t answer
           tried_three (Ok u) w t ps force b =
               let child = subst (λ c. Walked ns n r env c f₃ s₃ f₄ s₄ late after late_room room' (Ok u)) b.3.right w in
               added_three n r ps f s f₁ s₁ ns i t force.holds (here ps force.known).0 b.0 b.1 b.2 x y z b.3 f₂ s₂ f₃ s₃ f₄ s₄ (inside t ps force) (one t ps force b) (two t ps force b) (child.tried b.2 ps (force_three t ps force b))
-          tried_three (Err j) w t ps force b =
-              let child = subst (λ c. Walked ns n r env c f₃ s₃ f₄ s₄ late after late_room room' (Err j)) b.3.right w in
-              refused_right n r ps f s f₁ s₁ ns i t force.holds (here ps force.known).0 b.0 b.1 b.2 x y z b.3 f₂ s₂ f₃ s₃ j (one t ps force b) (two t ps force b) (child.tried b.2 ps (force_three t ps force b))
+          tried_three (Err unmet) w t ps force b =
+              let child = subst (λ c. Walked ns n r env c f₃ s₃ f₄ s₄ late after late_room room' (Err unmet)) b.3.right w in
+              refused_right n r ps f s f₁ s₁ ns i t force.holds (here ps force.known).0 b.0 b.1 b.2 x y z b.3 f₂ s₂ f₃ s₃ unmet.node (one t ps force b) (two t ps force b) (child.tried b.2 ps (force_three t ps force b))
 
-          spent_three : (answer : Result (Unit {0}) ℕ) → Walked ns n r env z f₃ s₃ f₄ s₄ late after late_room room' answer → (t : Tree) (ps : List ℕ) (force : InForce ns n r (before env) i t ps) (b : (u v w : Tree) × ThreeOf ns i t u v w x y z) → SpentOn before after room room' (nodes t) answer
+          spent_three : (answer : Result (Unit {0}) Unmet) → Walked ns n r env z f₃ s₃ f₄ s₄ late after late_room room' answer → (t : Tree) (ps : List ℕ) (force : InForce ns n r (before env) i t ps) (b : (u v w : Tree) × ThreeOf ns i t u v w x y z) → SpentOn before after room room' (nodes t) answer
           spent_three (Ok u) w t ps force b =
               let child = subst (λ c. Walked ns n r env c f₃ s₃ f₄ s₄ late after late_room room' (Ok u)) b.3.right w in
               let size = b.3.size in
               spent_twice before mid after room mid_room room' (nodes b.0) (nodes b.1 + nodes b.2) (nodes t) (omega arith) (paid_one t ps force b)
               (spent_twice mid late after mid_room late_room room' (nodes b.1) (nodes b.2) (nodes b.1 + nodes b.2) (omega arith) (paid_two t ps force b) (child.spent b.2 ps (force_three t ps force b)))
-          spent_three (Err j) w t ps force b = tt
+          spent_three (Err unmet) w t ps force b = tt
 
-          pub walked_three : (answer : Result (Unit {0}) ℕ) → Walked ns n r env z f₃ s₃ f₄ s₄ late after late_room room' answer → Walked ns n r env i f s f₄ s₄ before after room room' answer
+          pub walked_three : (answer : Result (Unit {0}) Unmet) → Walked ns n r env z f₃ s₃ f₄ s₄ late after late_room room' answer → Walked ns n r env i f s f₄ s₄ before after room room' answer
           walked_three answer w = record { tried = λ t ps force. tried_three answer w t ps force (three_inv ns i t x y z force.holds is); spent = λ t ps force. spent_three answer w t ps force (three_inv ns i t x y z force.holds is) }
+
+-- ── a later unifier of the same tree ──
+
+module _ (p q : Bor Received) (same : q ≡ p) where
+  pub count_there : length q.now.nodes.items ≡ length p.now.nodes.items
+  count_there = ap (λ b. (length b.now.nodes.items)) same
+
+  pub finite_there : (f s : List ℕ) → Finite (2 * length p.now.nodes.items) f s → Finite (2 * length q.now.nodes.items) f s
+  finite_there f s h = subst (λ b. Finite (2 * length b.now.nodes.items) f s) (sym same) h
+
+  pub room_there : (listed : Option (List ℕ)) (i room : ℕ) → RoomFor p.now.nodes.items (length p.now.nodes.items) p.now.readings listed i room → RoomFor q.now.nodes.items (length q.now.nodes.items) q.now.readings listed i room
+  room_there listed i room h = subst (λ b. RoomFor b.now.nodes.items (length b.now.nodes.items) b.now.readings listed i room) (sym same) h
+
+  pub walked_there :
+      (env i : ℕ) (f s f' s' : List ℕ) (before after : Lists ℕ) (room room' : ℕ) (answer : Result (Unit {0}) Unmet) →
+      Walked q.now.nodes.items (length q.now.nodes.items) q.now.readings env i f s f' s' before after room room' answer →
+      Walked p.now.nodes.items (length p.now.nodes.items) p.now.readings env i f s f' s' before after room room' answer
+  walked_there env i f s f' s' before after room room' answer h = subst (λ b. Walked b.now.nodes.items (length b.now.nodes.items) b.now.readings env i f s f' s' before after room room' answer) same h

@@ -3,14 +3,10 @@ ghost use Rattle.std.specs.Prelude.{◌+◌, ◌*◌, ◌≤◌, length};
 ghost use Rattle.syntax.specs.Tree.{Tree};
 ghost use Rattle.record.specs.Reading.{IsTree};
 ghost use Rattle.typing.specs.Answered.{Answered, Found};
-ghost use Rattle.typing.specs.Ruled.{Blank};
-ghost use Rattle.typing.specs.Unified.{Kept};
 
-use crate::clear::clear;
-use crate::conditions::conditions;
 use crate::fault::AcceptFault;
-use crate::spelling::spell;
-use record::node::Received;
+use crate::unifier::Unifier;
+use record::received::Received;
 
 /// Writes the spelling of the most general type of a tree to the front of `types`, and answers its count of entries.
 ///
@@ -24,19 +20,19 @@ pub(crate) fn answer_type(
     requires tree { (t : Tree) × IsTree received.now t }
     ensures { (t : Tree) → IsTree received.now t → Answered received.now.readings t first.old second.old types.old first.new second.new types.new result }
 {
-    let entries = 3 * received.nodes.count + 2;
+    let entries = 3 * received.nodes.len() + 2;
     if first.len() < entries || second.len() < entries {
         return Err(AcceptFault::ShortTable);
     }
-    clear(first, entries);
-    clear(second, entries);
+    let first = &mut first[..entries];
+    let second = &mut second[..entries];
     let answer = find_type(received, first, second, types);
-    clear(first, entries);
-    clear(second, entries);
+    first.fill(0);
+    second.fill(0);
     answer
 }
 
-/// Finds the type in blank tables, and spells it.
+/// Finds the type, and spells it.
 fn find_type(
     received: &Received,
     first: &mut [u16],
@@ -44,16 +40,10 @@ fn find_type(
     types: &mut [u16],
 ) -> Result<usize, AcceptFault>
     requires tree { (t : Tree) × IsTree received.now t }
-    requires long { (2 * received.now.nodes.count + 2 ≤ length first.old) × (2 * received.now.nodes.count + 2 ≤ length second.old) }
-    requires blank { (Blank (2 * received.now.nodes.count + 2) first.old) × (Blank (2 * received.now.nodes.count + 2) second.old) }
-    ensures found { (t : Tree) → IsTree received.now t → Found received.now.readings t types.old types.new result }
-    ensures kept { (Kept (2 * received.now.nodes.count + 2) first.old first.new) × (Kept (2 * received.now.nodes.count + 2) second.old second.new) }
+    requires long { (2 * length received.now.nodes.items + 2 ≤ length first.old) × (2 * length received.now.nodes.items + 2 ≤ length second.old) }
+    ensures { (t : Tree) → IsTree received.now t → Found received.now.readings t types.old types.new result }
 {
-    match conditions(received, first, second) {
-        Err(node) => Err(AcceptFault::NoType(node)),
-        Ok(()) => match spell(first, second, 2 * received.nodes.count, types) {
-            Some(count) => Ok(count),
-            None => Err(AcceptFault::LongType),
-        },
-    }
+    let mut unifier = Unifier::new(received, first, second);
+    unifier.add_all()?;
+    unifier.spell(types).ok_or(AcceptFault::LongType)
 }

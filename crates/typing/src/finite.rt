@@ -1,72 +1,69 @@
 //! Types are finite: no place may lead back to itself.
-ghost use Rattle.std.specs.Prelude.{◌≡◌, ℕ, ◌+◌, ◌<◌, ◌≤◌, length, slice_index};
-ghost use Rattle.typing.specs.Classes.{Sound};
-ghost use Rattle.typing.specs.Finite.{BelowOpen, Decided, Marked, Seen};
+ghost use Rattle.std.specs.Prelude.{◌≡◌, ℕ, ◌+◌, ◌*◌, ◌<◌, ◌≤◌, length, is_some};
+ghost use Rattle.typing.specs.Finite.{mark_at};
+ghost use Rattle.typing.specs.Unifying.{free, IsPlace, BelowEntered, Decided, Marked, Seen};
 
-use crate::shape::{Shape, shape_at};
+use crate::shape::Shape;
+use crate::unifier::Unifier;
+use syntax::limits::MOST_NODES;
 
-/// How many places there are at most: two for each of 512 nodes, int and bool.
-const MOST_PLACES: usize = 1026;
+/// How many places there are at most: two for each node, int and bool.
+const MOST_PLACES: usize = 2 * MOST_NODES + 2;
 
-/// The mark of a place whose sides are being seen.
-const OPEN: u16 = 65535;
-
-/// Sees a place and all that it leads to, each place once, and answers the number for the next place that is done.
-fn visit(
-    first: &[u16],
-    second: &[u16],
-    free: usize,
-    marks: &mut [u16],
-    next: u16,
-    place: usize,
-) -> Option<u16>
-    requires sound { Sound free first.now second.now }
-    requires marked { Marked free first.now second.now marks.old next }
-    requires inside { place < free + 2 }
-    requires below { BelowOpen free first.now second.now place marks.old }
-    ensures { Seen free first.now second.now place marks.old next marks.new result }
-{
-    if marks[place] == OPEN {
-        return None;
-    }
-    if marks[place] != 0 {
-        return Some(next);
-    }
-    marks[place] = OPEN;
-    let number = match shape_at(first, second, place) {
-        Shape::Open => next,
-        Shape::Link(to) => visit(first, second, free, marks, next, to)?,
-        Shape::Arrow(left, right) => {
-            let between = visit(first, second, free, marks, next, left)?;
-            visit(first, second, free, marks, between, right)?
-        }
-    };
-    marks[place] = number;
-    Some(number + 1)
+/// How far a place has been seen.
+#[derive(Clone, Copy)]
+pub enum Mark {
+    Unseen,
+    /// Its sides are being seen.
+    Entered,
+    /// All that it leads to has been seen, and that many places before it.
+    Done(u16),
 }
 
-fn visit_all(first: &[u16], second: &[u16], free: usize, marks: &mut [u16]) -> bool
-    requires sound { Sound free first.now second.now }
-    requires long { free + 2 ≤ length marks.old }
-    requires fresh { (k : ℕ) → slice_index marks.old k ≡ 0 }
-    ensures { Decided free first.now second.now result }
-{
-    let mut next = 1;
-    for place in 0..free + 2 {
-        match visit(first, second, free, marks, next, place) {
-            None => return false,
-            Some(number) => next = number,
+impl Unifier<'_> {
+    /// Sees a place and all that it leads to, each place once, and answers the number for the next place that is done.
+    fn visit(&self, marks: &mut [Mark], next: u16, place: usize) -> Option<u16>
+        requires marked { Marked self.now marks.old next }
+        requires inside { IsPlace self.now place }
+        requires below { BelowEntered self.now place marks.old }
+        ensures { Seen self.now place marks.old next marks.new result }
+    {
+        match marks[place] {
+            Mark::Entered => return None,
+            Mark::Done(_) => return Some(next),
+            Mark::Unseen => {}
         }
+        marks[place] = Mark::Entered;
+        let number = match self.shape(place) {
+            Shape::Open => next,
+            Shape::Link(to) => self.visit(marks, next, to)?,
+            Shape::Arrow(left, right) => {
+                let between = self.visit(marks, next, left)?;
+                self.visit(marks, between, right)?
+            }
+        };
+        marks[place] = Mark::Done(number);
+        Some(number + 1)
     }
-    true
-}
 
-/// Whether no place leads back to itself. Otherwise no types agree with the tables.
-pub(crate) fn is_finite(first: &[u16], second: &[u16], free: usize) -> bool
-    requires sound { Sound free first.now second.now }
-    requires few { free ≤ 1024 }
-    ensures { Decided free first.now second.now result }
-{
-    let mut marks = [0u16; MOST_PLACES];
-    visit_all(first, second, free, &mut marks)
+    /// Sees all places, and answers how many there are.
+    fn visit_all(&self, marks: &mut [Mark]) -> Option<u16>
+        requires long { free self.now + 2 ≤ length marks.old }
+        requires fresh { (k : ℕ) → mark_at marks.old k ≡ Mark.Unseen }
+        ensures { Decided self.now (is_some result) }
+    {
+        let mut next = 0;
+        for place in 0..self.int() + 2 {
+            next = self.visit(marks, next, place)?;
+        }
+        Some(next)
+    }
+
+    /// Whether no place leads back to itself. Otherwise no types agree with the tables.
+    pub(crate) fn is_finite(&self) -> bool
+        ensures { Decided self.now result }
+    {
+        let mut marks = [Mark::Unseen; MOST_PLACES];
+        self.visit_all(&mut marks).is_some()
+    }
 }

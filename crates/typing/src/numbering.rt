@@ -1,28 +1,31 @@
 //! Unknowns numbered by first appearance.
-ghost use Rattle.std.specs.Prelude.{◌≡◌, ℕ, ◌+◌, ◌<◌, ◌≤◌, List, [], length, slice_index};
-ghost use Rattle.calculus.specs.General.{place, note};
-ghost use Rattle.typing.specs.Finite.{unseen};
-ghost use Rattle.typing.specs.Spelled.{Numbers};
+ghost use Rattle.std.proofs.Props.{props};
+ghost use Rattle.std.specs.Prelude.{◌≡◌, ℕ, ◌+◌, ◌<◌, List, [], None, length, slice_index_or, is_none, count_by, IfSome};
 
-/// How many places may be unknown: two for each of 512 nodes.
-const MOST_UNKNOWNS: usize = 1024;
+use syntax::limits::MOST_NODES;
 
-/// The numbers given so far: 0 for a place that has none, else one more than its number.
+/// How many places may be unknown: two for each node.
+const MOST_UNKNOWNS: usize = 2 * MOST_NODES;
+
+/// The numbers given so far, each at its unknown's place.
 #[derive(Drop)]
 pub struct Numbering {
-    given: [u16; MOST_UNKNOWNS],
+    given: [Option<u16>; MOST_UNKNOWNS],
     next: u16,
     ghost whole: { length given ≡ 1024 },
-    ghost few: { next + unseen (length given) given ≡ length given },
-    ghost earlier: { (k : ℕ) → slice_index given k ≤ next },
+    ghost few: { next + count_by is_none given ≡ length given },
+    ghost earlier: { (k : ℕ) → IfSome (slice_index_or given k None) (λ n. n < next) } by { Prim.hlevel props },
 }
 
 impl Numbering {
+    ghost use Rattle.calculus.specs.General.{place, note};
+    ghost use Rattle.typing.specs.Numbered.{HasNumbered};
+
     pub(crate) fn new() -> Numbering
-        ensures { Numbers [] result.given result.next }
+        ensures { HasNumbered [] result }
     {
         Numbering {
-            given: [0; MOST_UNKNOWNS],
+            given: [None; MOST_UNKNOWNS],
             next: 0,
         }
     }
@@ -31,15 +34,14 @@ impl Numbering {
     pub(crate) fn number(&mut self, unknown: usize) -> u16
         requires { unknown < 1024 }
         ensures small { result < 1024 }
-        ensures numbered { (seen : List ℕ) → Numbers seen self.old.given self.old.next → (result ≡ place unknown seen) × Numbers (note unknown seen) self.new.given self.new.next }
+        ensures numbered { (seen : List ℕ) → HasNumbered seen self.old → (result ≡ place unknown seen) × HasNumbered (note unknown seen) self.new }
     {
-        let given = self.given[unknown];
-        if given > 0 {
-            return given - 1;
+        if let Some(number) = self.given[unknown] {
+            return number;
         }
         let number = self.next;
         self.next = number + 1;
-        self.given[unknown] = number + 1;
+        self.given[unknown] = Some(number);
         number
     }
 }

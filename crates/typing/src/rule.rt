@@ -6,7 +6,7 @@ ghost use Rattle.typing.specs.Accepting.{IsRule};
 ghost use Rattle.syntax.specs.Tree.{number};
 ghost use Rattle.std.specs.Prelude.{pos};
 
-use record::node::Received;
+use record::received::Received;
 
 /// An accepted rule: at all times one tree with all variables bound, which has a type.
 ///

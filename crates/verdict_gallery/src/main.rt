@@ -8,11 +8,6 @@ mod types;
 use std::io;
 
 fn main(rt: HostRuntime) -> io::Result<()> {
-    types::typed(&rt)?;
-    types::kinds(&rt)?;
-    types::names(&rt)?;
-    types::layout(&rt)?;
-    records::fronts(&rt)?;
-    records::trees(&rt)?;
-    records::tables(&rt)
+    types::show_all(&rt)?;
+    records::show_all(&rt)
 }

@@ -1,58 +1,68 @@
 //! Records that are not accepted.
+use std::alloc::{AllocError, Global};
 use std::io;
 use typing::fault::AcceptFault;
-use verdicts::of_record::{Form, RecordFile, show};
-use verdicts::verdict::{Verdict, verdict_on};
+use verdicts::of_record::{Form, RecordFile};
+use verdicts::verdict::{Refused, verdict_on};
 
 /// Records that break before their first node.
-pub(crate) fn fronts(rt: &HostRuntime) -> io::Result<()> {
-    of_bytes(rt, &[])?;
-    of_bytes(rt, &[0, 3, 1, 0])?;
-    of_bytes(rt, &[0, 0])?;
-    of_bytes(rt, &[0, 3, 2, 0, 2])?;
-    of_bytes(rt, &[0, 1, 1])?;
-    of_bytes(rt, &[0, 3, 1, 9, 2])
-}
+const FRONTS: [&[u8]; 6] = [
+    &[],
+    &[0, 3, 1, 0],
+    &[0, 0],
+    &[0, 3, 2, 0, 2],
+    &[0, 1, 1],
+    &[0, 3, 1, 9, 2],
+];
 
 /// Records that break at a node.
-pub(crate) fn trees(rt: &HostRuntime) -> io::Result<()> {
-    of_bytes(rt, &[0, 8, 1, 0, 8, 1, 0, 0, 0, 1])?;
-    of_bytes(rt, &[0, 3, 1, 0, 11])?;
-    of_bytes(rt, &[0, 5, 1, 0, 1, 0, 255])?;
-    of_bytes(rt, &[0, 4, 1, 1, 4, 0])?;
-    of_bytes(rt, &[0, 6, 1, 1, 5, 4, 0, 2])?;
-    of_bytes(rt, &[0, 4, 1, 0, 2, 3])?;
-    of_bytes(rt, &[0, 9, 1, 0, 8, 1, 0, 0, 0, 1, 2])?;
-    let mut deep = vec![in rt.alloc(); 2, 3, 1, 0]?;
-    for _ in 0..512 {
-        deep.push(5)?;
+const TREES: [&[u8]; 7] = [
+    &[0, 8, 1, 0, 8, 1, 0, 0, 0, 1],
+    &[0, 3, 1, 0, 11],
+    &[0, 5, 1, 0, 1, 0, 255],
+    &[0, 4, 1, 1, 4, 0],
+    &[0, 6, 1, 1, 5, 4, 0, 2],
+    &[0, 4, 1, 0, 2, 3],
+    &[0, 9, 1, 0, 8, 1, 0, 0, 0, 1, 2],
+];
+
+/// Prints each record's message, and last what only a caller of the library can meet: the programs lend tables that
+/// are long enough.
+pub(crate) fn show_all(rt: &HostRuntime) -> io::Result<()> {
+    for record in FRONTS.iter().chain(&TREES) {
+        of_bytes(rt, record)?;
     }
-    deep.push(2)?;
-    of_bytes(rt, deep.as_slice())
+    of_bytes(rt, deep(rt.alloc())?.as_slice())?;
+    refused(
+        rt,
+        Refused {
+            record: &[0, 3, 1, 0, 2],
+            fault: AcceptFault::ShortTable,
+        },
+    )
 }
 
-/// What only a caller of the library can meet: the programs lend tables that are long enough.
-pub(crate) fn tables(rt: &HostRuntime) -> io::Result<()> {
-    refused(rt, AcceptFault::ShortTable, &[0, 3, 1, 0, 2])
+/// A truth within more functions than a rule may have nodes.
+fn deep(heap: Global) -> Result<Vec<u8>, AllocError> {
+    let mut record = vec![in heap; 2, 3, 1, 0]?;
+    record.resize(4 + 512, 5)?;
+    record.push(2)?;
+    Ok(record)
 }
 
 /// Prints the type of a record, or the message.
 fn of_bytes(rt: &HostRuntime, record: &[u8]) -> io::Result<()> {
     match verdict_on(rt.alloc(), record)? {
-        Verdict::Accepted(rule) => {
-            let type_words = rule.type_words.as_str();
-            println!(rt; "rule.rec: {type_words}\n")
-        }
-        Verdict::Refused(fault) => refused(rt, fault, record),
+        Ok(rule) => println!(rt; "rule.rec: {}\n", rule.type_words),
+        Err(fault) => refused(rt, fault),
     }
 }
 
-fn refused(rt: &HostRuntime, fault: AcceptFault, record: &[u8]) -> io::Result<()> {
-    let from = RecordFile {
-        file: "rule.rec",
+fn refused(rt: &HostRuntime, refused: Refused) -> io::Result<()> {
+    let file = RecordFile {
+        name: "rule.rec",
         form: Form::Bytes,
         cut: false,
     };
-    let message = show(rt.alloc(), fault, record, from)?;
-    println!(rt; "{message}")
+    println!(rt; "{}", refused.in_file(rt.alloc(), file)?)
 }

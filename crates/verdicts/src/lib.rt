@@ -6,9 +6,8 @@
 #![tactic(auto)]
 
 mod clash;
-mod node;
 pub mod of_record;
-pub mod of_text;
+mod of_text;
 mod questions;
 mod span;
 mod standing;

@@ -1,13 +1,17 @@
 //! Records that are not accepted.
+ghost use Rattle.std.specs.Prelude.{◌≡◌, IfOk};
+ghost use Rattle.typing.specs.Faults.{number_of};
+
 use crate::clash::clash_at;
-use crate::node::{kind_of, node_at};
-use crate::questions;
-use crate::verdict::MOST_ENTRIES;
-use crate::walk::node_places;
-use messages::frame::about;
+use crate::questions::Given;
+use crate::verdict::{MOST_ENTRIES, Refused};
+use crate::walk::Walk;
+use messages::frame::Message;
 use messages::reason::Reason;
 use record::receive::receive;
 use std::alloc::{AllocError, Global};
+use std::fmt;
+use syntax::kind::Kind;
 use typing::fault::AcceptFault;
 
 /// How a file spells a record.
@@ -17,101 +21,100 @@ pub enum Form {
     Hexadecimal,
 }
 
+impl fmt::Display for Form {
+    fn fmt<W: fmt::Write>(&self, f: &mut fmt::Formatter<W>) -> fmt::Result {
+        match self {
+            Form::Bytes => write!(f, "bytes"),
+            Form::Hexadecimal => write!(f, "hexadecimal"),
+        }
+    }
+}
+
 /// The file that a record came in.
 #[derive(Clone, Copy)]
 pub struct RecordFile<'a> {
-    pub file: &'a str,
+    pub name: &'a str,
     pub form: Form,
     /// Whether it has more than was read of it.
     pub cut: bool,
 }
 
-/// What to do about a record whose rule has no type.
-const SEE_TEXT: &str = "check the rule's text, which shows the part: fun check FILE NAME..";
-
-/// The message for a record that is not accepted.
-pub fn show(
-    heap: Global,
-    fault: AcceptFault,
-    record: &[u8],
-    from: RecordFile,
-) -> Result<String, AllocError> {
-    let file = from.file;
-    let form = match from.form {
-        Form::Bytes => "bytes",
-        Form::Hexadecimal => "hexadecimal",
-    };
-    let spot = spot_of(heap, fault, record)?;
-    let subject = format!(in heap; "{file}, read as {form}{spot}")?;
-    let reason = match fault {
-        AcceptFault::NoType(node) => clash_of(heap, record, node)?,
-        _ => reason_of(heap, fault, record, from.cut)?,
-    };
-    about(heap, fault.number(), subject.as_str(), &reason)
-}
-
-/// Where in the record a refusal points: at a byte, at a node or nowhere.
-fn spot_of(heap: Global, fault: AcceptFault, record: &[u8]) -> Result<String, AllocError> {
-    match fault {
-        AcceptFault::Record(fault) => {
-            let place = fault.place();
-            format!(in heap; ": byte {place}")
-        }
-        AcceptFault::NoType(node) => {
-            let places = node_places(heap, record)?;
-            let place = places.get(node).copied().unwrap_or(0);
-            let kind = match receive(record) {
-                Ok(received) => kind_of(node_at(&received.nodes.list, node)),
-                Err(_) => "a node",
-            };
-            format!(in heap; ": node {node} at byte {place}, {kind}")
-        }
-        AcceptFault::ShortTable | AcceptFault::LongType => Ok(String::new(heap)),
+impl fmt::Display for RecordFile<'_> {
+    fn fmt<W: fmt::Write>(&self, f: &mut fmt::Formatter<W>) -> fmt::Result {
+        write!(f, "{}, read as {}", self.name, self.form)
     }
 }
 
-/// Why the types of a record do not go together.
-fn clash_of(heap: Global, record: &[u8], node: usize) -> Result<Reason, AllocError> {
-    match receive(record) {
-        Ok(received) => {
-            let Reason { title, why, help } = clash_at(heap, &received.nodes.list, node)?;
-            drop(help);
-            let help = String::from_str(heap, SEE_TEXT)?;
-            Ok(Reason { title, why, help })
+impl Refused<'_> {
+    /// The message for the file that the record came in.
+    pub fn in_file(&self, heap: Global, file: RecordFile) -> Result<Message<'static>, AllocError>
+        ensures { IfOk result (λ message. message.number ≡ number_of self.now.fault) }
+    {
+        let mut reason = self.reason(heap, file.cut)?;
+        if let AcceptFault::NoType(_) = self.fault {
+            reason.help =
+                "check the rule's text, which shows the part: fun check FILE NAME..".into();
         }
-        Err(fault) => questions::reason_of(heap, fault, record, false),
+        let subject = self.subject(heap, file)?;
+        Ok(Message::about(self.fault.number(), subject.into(), reason))
+    }
+
+    /// The file, and where in the record the refusal points: at a byte, at a node or nowhere.
+    fn subject(&self, heap: Global, file: RecordFile) -> Result<String, AllocError> {
+        match self.fault {
+            AcceptFault::Record(fault) => format!(in heap; "{file}: byte {}", fault.place()),
+            AcceptFault::NoType(node) => match Walk::over(self.record).nth(node) {
+                Some((place, kind)) => format!(in heap;
+                    "{file}: node {node} at byte {place}, {}",
+                    named(kind)
+                ),
+                None => format!(in heap; "{file}: node {node}"),
+            },
+            AcceptFault::ShortTable | AcceptFault::LongType => format!(in heap; "{file}"),
+        }
+    }
+
+    /// The reason for the refusal, for a text. Where `cut` is said, there are more bytes than were read.
+    pub(crate) fn reason(&self, heap: Global, cut: bool) -> Result<Reason, AllocError> {
+        let given = Given {
+            bytes: self.record,
+            cut,
+        };
+        match self.fault {
+            AcceptFault::Record(fault) => given.reason(heap, fault),
+            AcceptFault::NoType(node) => match receive(self.record) {
+                Ok(received) => clash_at(heap, received.nodes.as_slice(), node),
+                Err(fault) => given.reason(heap, fault),
+            },
+            AcceptFault::ShortTable => Ok(Reason::new(
+                "a work table is too short",
+                "a rule of n nodes needs two tables of 3 n + 2 entries",
+                "lend longer tables: 1538 entries are enough for every rule",
+            )),
+            AcceptFault::LongType => {
+                let why = format!(in heap;
+                    "there is room for {MOST_ENTRIES} ints, bools, unknowns and arrows, and it has more"
+                )?;
+                let title = "the rule has a type, but too long a one to write down";
+                let help =
+                    "shorten the rule: each name that uses an earlier one twice can double the type";
+                Ok(Reason::new(title, why, help))
+            }
+        }
     }
 }
 
-/// The reason for a refusal that is no matter of one node.
-pub(crate) fn reason_of(
-    heap: Global,
-    fault: AcceptFault,
-    record: &[u8],
-    cut: bool,
-) -> Result<Reason, AllocError> {
-    match fault {
-        AcceptFault::Record(fault) => questions::reason_of(heap, fault, record, cut),
-        AcceptFault::ShortTable => Reason::plain(
-            heap,
-            "a work table is too short",
-            "a rule of n nodes needs two tables of 3 n + 2 entries",
-            "lend longer tables: 1538 entries are enough for every rule",
-        ),
-        AcceptFault::NoType(node) => clash_of(heap, record, node),
-        AcceptFault::LongType => {
-            let title = String::from_str(
-                heap,
-                "the rule has a type, but too long a one to write down",
-            )?;
-            let why = format!(in heap;
-                "there is room for {MOST_ENTRIES} ints, bools, unknowns and arrows, and it has more"
-            )?;
-            let help = String::from_str(
-                heap,
-                "shorten the rule: each name that uses an earlier one twice can double the type",
-            )?;
-            Ok(Reason { title, why, help })
-        }
+/// What a node of a kind is called.
+fn named(kind: Kind) -> &'static str {
+    match kind {
+        Kind::Number => "a number",
+        Kind::False | Kind::True => "a truth",
+        Kind::Variable => "a variable",
+        Kind::Function => "a function",
+        Kind::Application => "an application",
+        Kind::LetIn => "a let",
+        Kind::Sum => "a sum",
+        Kind::AtMost => "a comparison",
+        Kind::IfElse => "an if",
     }
 }

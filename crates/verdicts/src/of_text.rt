@@ -1,30 +1,29 @@
 //! Texts whose records are not accepted.
-use crate::clash::clash_at;
-use crate::of_record::reason_of;
+ghost use Rattle.std.specs.Prelude.{◌≡◌, IfOk};
+ghost use Rattle.typing.specs.Faults.{number_of};
+
 use crate::span::span_of;
-use messages::frame::{about, pointing};
+use crate::verdict::Refused;
+use messages::file::TextFile;
+use messages::frame::Message;
 use record::receive::receive;
 use std::alloc::{AllocError, Global};
 use typing::fault::AcceptFault;
 
-/// The message for a text whose record is not accepted. Where a node is refused it shows the part that the node was
-/// made from.
-pub fn show(
-    heap: Global,
-    fault: AcceptFault,
-    record: &[u8],
-    text: &[u8],
-    file: &str,
-) -> Result<String, AllocError> {
-    let number = fault.number();
-    if let AcceptFault::NoType(node) = fault {
-        if let Ok(received) = receive(record) {
-            let nodes = &received.nodes.list;
-            let reason = clash_at(heap, nodes, node)?;
-            let span = span_of(heap, text, nodes, node)?;
-            return pointing(heap, number, file, text, span, &reason);
+impl Refused<'_> {
+    /// The message for the text that the record was made from. Where a node is refused it shows the part that the node
+    /// comes from.
+    pub fn in_text<'a>(&self, heap: Global, file: TextFile<'a>) -> Result<Message<'a>, AllocError>
+        ensures { IfOk result (λ message. message.number ≡ number_of self.now.fault) }
+    {
+        let number = self.fault.number();
+        let reason = self.reason(heap, false)?;
+        match (self.fault, receive(self.record)) {
+            (AcceptFault::NoType(node), Ok(received)) => {
+                let span = span_of(heap, file.text, received.nodes.as_slice(), node)?;
+                Message::pointing(heap, number, file, span, reason)
+            }
+            _ => Ok(Message::about(number, file.name.into(), reason)),
         }
     }
-    let reason = reason_of(heap, fault, record, false)?;
-    about(heap, number, file, &reason)
 }

@@ -1,12 +1,16 @@
 //! Whether a record is accepted.
+ghost use Rattle.std.specs.Prelude.{IfOk};
+ghost use Rattle.verdicts.specs.Told.{Told};
+
 use crate::words::in_words;
 use std::alloc::{AllocError, Global};
+use syntax::limits::MOST_NODES;
 use typing::accept::accept;
 use typing::fault::AcceptFault;
 use typing::rule::Rule;
 
-/// How many entries a work table needs at most: 3 for each of 512 nodes, and 2.
-const TABLE: usize = 1_538;
+/// How many entries a work table needs at most: 3 for each node, and 2.
+const TABLE: usize = 3 * MOST_NODES + 2;
 
 /// How many entries of a type are written down. A type can have far more than any memory.
 pub(crate) const MOST_ENTRIES: usize = 65_536;
@@ -20,27 +24,30 @@ pub struct Accepted {
     pub type_words: String,
 }
 
-#[derive(Drop)]
-pub enum Verdict {
-    Accepted(Accepted),
-    Refused(AcceptFault),
+/// A record that is not accepted, and why.
+#[derive(Clone, Copy)]
+pub struct Refused<'a> {
+    pub record: &'a [u8],
+    pub fault: AcceptFault,
 }
 
 /// Asks whether a record is accepted, with tables that are long enough for every record.
-pub fn verdict_on(heap: Global, record: &[u8]) -> Result<Verdict, AllocError> {
+pub fn verdict_on<'a>(
+    heap: Global,
+    record: &'a [u8],
+) -> Result<Result<Accepted, Refused<'a>>, AllocError>
+    ensures { IfOk result (Told record.now) }
+{
     let mut first = vec![in heap; 0u16; TABLE]?;
     let mut second = vec![in heap; 0u16; TABLE]?;
     let mut types = vec![in heap; 0u16; MOST_ENTRIES]?;
     let mut rule = Rule::new();
     match accept(record, &mut first, &mut second, &mut types, &mut rule) {
-        Ok(count) => {
-            types.truncate(count);
-            Ok(Verdict::Accepted(Accepted {
-                nodes: rule.received.nodes.count,
-                readings: rule.received.readings,
-                type_words: in_words(heap, types.as_slice())?,
-            }))
-        }
-        Err(fault) => Ok(Verdict::Refused(fault)),
+        Ok(count) => Ok(Ok(Accepted {
+            nodes: rule.received.nodes.len(),
+            readings: rule.received.readings,
+            type_words: in_words(heap, &types[..count])?,
+        })),
+        Err(fault) => Ok(Err(Refused { record, fault })),
     }
 }

@@ -1,12 +1,21 @@
 //! Types in words: `int`, `bool`, `(int -> a) -> a`, the unknowns by letters.
 use std::alloc::{AllocError, Global};
+use std::fmt;
+use typing::entry::Entry;
 
-/// The entries of a spelling. What is greater stands for an unknown.
-const INT: u16 = 0;
+/// An unknown of a type, by a letter: a to z, then the same letters with a number, as a1 and b1.
+#[derive(Clone, Copy)]
+struct Unknown(u16);
 
-const BOOL: u16 = 1;
-
-const ARROW: u16 = 2;
+impl fmt::Display for Unknown {
+    fn fmt<W: fmt::Write>(&self, f: &mut fmt::Formatter<W>) -> fmt::Result {
+        let letter = (b'a' + (self.0 % 26) as u8) as char;
+        match self.0 / 26 {
+            0 => write!(f, "{letter}"),
+            round => write!(f, "{letter}{round}"),
+        }
+    }
+}
 
 /// An arrow that is not written to its end.
 #[derive(Clone, Copy)]
@@ -15,73 +24,61 @@ struct OpenArrow {
     in_parentheses: bool,
 }
 
-/// A type in words. Arrows group to the right, so that only one on the left of another stands in parentheses.
+/// A type that is being written.
+// Kept: a recursion over the two sides of an arrow would go as deep as a type has arrows, up to 65,536.
+#[derive(Drop)]
+struct Words {
+    written: String,
+    open: Vec<OpenArrow>,
+}
+
+/// A type in words.
 pub(crate) fn in_words(heap: Global, spelling: &[u16]) -> Result<String, AllocError> {
-    let mut words = String::new(heap);
-    let mut open = Vec::new(heap);
+    let mut words = Words {
+        written: String::new(heap),
+        open: Vec::new(heap),
+    };
     for entry in spelling {
-        if *entry == ARROW {
-            let in_parentheses = is_left_side(open.as_slice());
-            if in_parentheses {
-                words.push('(')?;
+        match Entry::from(*entry) {
+            Entry::Arrow => words.begin_arrow()?,
+            Entry::Int => words.end_side("int")?,
+            Entry::Bool => words.end_side("bool")?,
+            Entry::Unknown(order) => {
+                let letter = Unknown(order).to_string(heap)?;
+                words.end_side(letter.as_str())?;
             }
-            open.push(OpenArrow {
-                on_left: true,
-                in_parentheses,
-            })?;
-        } else {
-            words.push_str(simple(heap, *entry)?.as_str())?;
-            complete(&mut open, &mut words)?;
         }
     }
-    Ok(words)
+    Ok(words.written)
 }
 
-/// Whether what comes next is the left side of an arrow.
-fn is_left_side(open: &[OpenArrow]) -> bool {
-    match open.last() {
-        Some(arrow) => arrow.on_left,
-        None => false,
-    }
-}
-
-/// Ends the arrows whose right side has been written, and goes on to the right side of the next one.
-fn complete(open: &mut Vec<OpenArrow>, words: &mut String) -> Result<(), AllocError> {
-    for _ in 0..open.len() {
-        let Some(arrow) = open.pop() else {
-            return Ok(());
-        };
-        if arrow.on_left {
-            words.push_str(" -> ")?;
-            open.push(OpenArrow {
-                on_left: false,
-                in_parentheses: arrow.in_parentheses,
-            })?;
-            return Ok(());
+impl Words {
+    /// Begins an arrow. Arrows group to the right, so that only one on the left of another stands in parentheses.
+    fn begin_arrow(&mut self) -> Result<(), AllocError> {
+        let in_parentheses = self.open.last().is_some_and(|above| above.on_left);
+        if in_parentheses {
+            self.written.push('(')?;
         }
-        if arrow.in_parentheses {
-            words.push(')')?;
+        self.open.push(OpenArrow {
+            on_left: true,
+            in_parentheses,
+        })?;
+        Ok(())
+    }
+
+    /// Writes a type without an arrow, ends the arrows whose right side it is, and goes on to the right side of the
+    /// next one.
+    fn end_side(&mut self, simple: &str) -> Result<(), AllocError> {
+        self.written.push_str(simple)?;
+        while let Some(arrow) = self.open.pop_if(|arrow| !arrow.on_left) {
+            if arrow.in_parentheses {
+                self.written.push(')')?;
+            }
         }
-    }
-    Ok(())
-}
-
-/// A type without an arrow.
-fn simple(heap: Global, entry: u16) -> Result<String, AllocError> {
-    match entry {
-        INT => String::from_str(heap, "int"),
-        BOOL => String::from_str(heap, "bool"),
-        _ => unknown(heap, entry.saturating_sub(3)),
-    }
-}
-
-/// The letters a to z, then the same letters with a number: a1, b1 and so on.
-fn unknown(heap: Global, order: u16) -> Result<String, AllocError> {
-    let letter = (b'a' + (order % 26) as u8) as char;
-    let round = order / 26;
-    if round == 0 {
-        format!(in heap; "{letter}")
-    } else {
-        format!(in heap; "{letter}{round}")
+        if let Some(arrow) = self.open.last_mut() {
+            self.written.push_str(" -> ")?;
+            arrow.on_left = false;
+        }
+        Ok(())
     }
 }

@@ -1,36 +1,22 @@
-use Rattle.std.proofs.Common.{◌+◌, ◌%◌, ◌≤◌, [], ◌∷◌, ◌++◌, length, refl, ◌∙◌, inl, inr, arith}
-use borrow.Author.Tests.{true-leb, false-leb}
-use Rattle.syntax.specs.Record.{encode, two_bytes}
+use Rattle.std.proofs.Common.{◌≡◌, ◌+◌, ◌≤◌, [], ◌∷◌, ◌++◌, length, drop, sym, ◌∙◌, subst, arith, rules}
+use borrow.Author.Tests.{true-leb}
+use Rattle.syntax.specs.Record.{encode, two_bytes, record_of}
+use Rattle.nodes.specs.Nodes.{count, Holds}
+use Rattle.text.specs.Writing.{written}
 use Rattle.text.proofs.Records.{record_bytes}
 use Rattle.text.proofs.Writes.{behind}
 use Rattle.text.proofs.compile.record.Goals as goal
 
-pub write-requires : goal.write-requires
-write-requires c =
-    let h = c.requires.held.1 in
-    let few = c.if-table-gt-MOST_NODES.false in
-    (c.requires.held.0, omega (arith, h.inside few), h.holds few, omega (arith, h.wide few, true-leb _ _ c.if-not-fits.ensures, c.put_two-at.ensures.0, c.put_two-at.auto.out, c.put-at.ensures.0, c.put-at.auto.out, c.put-at-2.ensures.0, c.put-at-2.auto.out))
-
-pub returns-then-table-gt-MOST_NODES : goal.returns-then-table-gt-MOST_NODES
-returns-then-table-gt-MOST_NODES c = λ t h. (refl, inl (refl, omega (arith, h.counted, c.if-table-gt-MOST_NODES.true)))
-
-pub returns-then-not-fits : goal.returns-then-not-fits
-returns-then-not-fits c =
-    λ t h.
-    let few = c.if-table-gt-MOST_NODES.false in
-    (refl, inr (refl, omega (arith, h.counted, few), omega (arith, h.wide few, false-leb _ _ c.if-not-fits.ensures)))
-
 pub returns : goal.returns
 returns c =
     λ t h.
-    let few = c.if-table-gt-MOST_NODES.false in
+    let few : count c.args.table.now ≤ 512 = omega (arith, c.if-len-gt-MOST_NODES.false, c.len.ensures.value) in
     let out = c.args.out.now in
     let n = c.args.table.now.bytes in
     let le : 0 ≤ length out = omega arith in
     let first = two_bytes (2 + n) in
-    let second = first ++ 1 ∷ [] in
-    let third = second ++ (c.args.readings % 256) ∷ [] in
-    let a = behind out c.put_two-at.new.out c.put-at.new.out 0 c.put_two-at.result c.put-at.result first (1 ∷ []) le c.put_two-at.ensures c.put-at.ensures in
-    let b = behind out c.put-at.new.out c.put-at-2.new.out 0 c.put-at.result c.put-at-2.result second ((c.args.readings % 256) ∷ []) le a c.put-at-2.ensures in
-    let d = behind out c.put-at-2.new.out c.write.new.out 0 c.put-at-2.result c.write.result third (encode t) le b (c.write.ensures t (h.holds few)) in
-    (omega (arith, h.counted, few), omega (arith, h.wide few, true-leb _ _ c.if-not-fits.ensures), omega (arith, h.wide few), d.1 ∙ record_bytes c.args.readings n t out c.requires.few (h.wide few))
+    let begun = subst (λ bs. (c.put.new.self.at ≡ 0 + length bs) × (c.put.new.self.out.now ≡ written out 0 bs)) c.two_bytes.ensures c.put.ensures.put in
+    let head = behind out 0 c.put.new.self c.put-2.new.self first (1 ∷ c.args.readings ∷ []) le begun c.put-2.ensures.put in
+    let all = behind out 0 c.put-2.new.self c.tree.new.self (first ++ 1 ∷ c.args.readings ∷ []) (encode t) le head (c.tree.ensures.wrote t (subst (λ ns. Holds ns c.args.root t) (sym c.as_slice.ensures.value) (h.holds few))) in
+    let whole : c.tree.new.self.out.now ≡ record_of c.args.readings t ++ drop (4 + n) out = all.1 ∙ record_bytes c.args.readings n t out (h.wide few) in
+    (omega (arith, h.counted, few), omega (arith, h.wide few, true-leb _ _ c.if-not-fits.ensures), omega (arith, h.wide few), search rules)

@@ -1,8 +1,16 @@
+use Rattle.std.proofs.Common.{◌≡◌, ◌-◌, arith}
+use Rattle.std.proofs.lemmas.Bool.Decides.{nat_tests}
+use Rattle.std.proofs.lemmas.List.{get_or_default}
+use Rattle.flat.specs.declared.slot.Slot.TheVariants.{Spare}
+use Rattle.flat.specs.Spans.{span_of}
 use Rattle.flat.proofs.Listed.{spanned}
 use Rattle.flat.proofs.flat_store.FlatStore.span.Goals as goal
 
-pub returns : goal.returns
-returns g c = record {
-  span = c.span.ensures;
-  list = spanned g.T.Blank.unwritten c.args.self.now.slots.now c.args.self.now.used c.args.handle c.span.result c.span.ensures;
-}
+pub returns-clause-list : goal.returns-clause-list
+returns-clause-list g c =
+    let slots = c.args.self.now.slots.now in
+    let handle = c.args.handle in
+    let slot = c.index-self-handle.result in
+    let same = get_or_default slots (handle - 1) slot Spare (omega arith) in
+    let told : c.ending.result ≡ span_of slots c.args.self.now.used handle = grind (arith, nat_tests, same, c.index-self-handle.is, c.ending.ensures) in
+    spanned g.T.Blank.unwritten slots c.args.self.now.used handle c.ending.result told

@@ -1,9 +1,0 @@
-use Rattle.std.proofs.Common.{◌+◌, ◌-◌, ◌*◌, length}
-use Rattle.record.proofs.tree.+tree_two.Given as goal
-
--- what is left of the bytes; of two calls at one place, the inner one reads one tree
-abbrev pub decreases-tree : goal.decreases-tree
-decreases-tree l = 2 * (length l.bytes.now - l.place)
-
-abbrev pub decreases-two : goal.decreases-two
-decreases-two l = 2 * (length l.bytes.now - l.place) + 1
