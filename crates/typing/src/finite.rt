@@ -1,8 +1,9 @@
 //! Types are finite: no place may lead back to itself.
-ghost use Rattle.std.specs.Prelude.{◌≡◌, ℕ, ◌+◌, ◌*◌, ◌<◌, ◌≤◌, length, is_some};
+ghost use Rattle.std.specs.Prelude.{◌≡◌, ℕ, ◌+◌, ◌*◌, ◌<◌, ◌≤◌, length};
 ghost use Rattle.typing.specs.Finite.{mark_at};
 ghost use Rattle.typing.specs.Unifying.{free, IsPlace, BelowEntered, Decided, Marked, Seen};
 
+use crate::clash::Clash;
 use crate::shape::Shape;
 use crate::unifier::Unifier;
 use syntax::limits::MOST_NODES;
@@ -22,15 +23,15 @@ pub enum Mark {
 
 impl Unifier<'_> {
     /// Sees a place and all that it leads to, each place once, and answers the number for the next place that is done.
-    fn visit(&self, marks: &mut [Mark], next: u16, place: usize) -> Option<u16>
+    fn visit(&self, marks: &mut [Mark], next: u16, place: usize) -> Result<u16, Clash>
         requires marked { Marked self.now marks.old next }
         requires inside { IsPlace self.now place }
         requires below { BelowEntered self.now place marks.old }
         ensures { Seen self.now place marks.old next marks.new result }
     {
         match marks[place] {
-            Mark::Entered => return None,
-            Mark::Done(_) => return Some(next),
+            Mark::Entered => return Err(Clash),
+            Mark::Done(_) => return Ok(next),
             Mark::Unseen => {}
         }
         marks[place] = Mark::Entered;
@@ -43,27 +44,27 @@ impl Unifier<'_> {
             }
         };
         marks[place] = Mark::Done(number);
-        Some(number + 1)
+        Ok(number + 1)
     }
 
-    /// Sees all places, and answers how many there are.
-    fn visit_all(&self, marks: &mut [Mark]) -> Option<u16>
+    /// Sees all places, one after another.
+    fn visit_all(&self, marks: &mut [Mark]) -> Result<(), Clash>
         requires long { free self.now + 2 ≤ length marks.old }
         requires fresh { (k : ℕ) → mark_at marks.old k ≡ Mark.Unseen }
-        ensures { Decided self.now (is_some result) }
+        ensures { Decided self.now result }
     {
         let mut next = 0;
         for place in 0..self.int() + 2 {
             next = self.visit(marks, next, place)?;
         }
-        Some(next)
+        Ok(())
     }
 
-    /// Whether no place leads back to itself. Otherwise no types agree with the tables.
-    pub(crate) fn is_finite(&self) -> bool
+    /// Fails where a place leads back to itself: no types agree with the tables then.
+    pub(crate) fn stays_finite(&self) -> Result<(), Clash>
         ensures { Decided self.now result }
     {
         let mut marks = [Mark::Unseen; MOST_PLACES];
-        self.visit_all(&mut marks).is_some()
+        self.visit_all(&mut marks)
     }
 }

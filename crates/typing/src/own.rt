@@ -3,6 +3,7 @@ ghost use Rattle.std.specs.Prelude.{◌≡◌, ◌<◌, List, ℕ, Some};
 ghost use Rattle.typing.specs.Unifying.{IsPlace, Tried, AtNode, NodeAsks};
 
 use crate::clash::Clash;
+use crate::conditions::InForce;
 use crate::unifier::{Unifier, node};
 use store::contract::Store;
 use syntax::node::Node;
@@ -30,11 +31,10 @@ impl Unifier<'_> {
     pub(crate) fn own_conditions<S: Store<Elem = u16>>(
         &mut self,
         at: usize,
-        store: &S,
-        env: u32,
+        force: &InForce<S>,
     ) -> Result<(), Clash>
-        requires { AtNode self.old (S.Store.lists store.now env) at }
-        ensures { (ps : List ℕ) → S.Store.lists store.now env ≡ Some ps → Tried self.old self.new (NodeAsks self.old ps at) result }
+        requires { AtNode self.old (S.Store.lists force.now.store.now force.now.list) at }
+        ensures { (ps : List ℕ) → S.Store.lists force.now.store.now force.now.list ≡ Some ps → Tried self.old self.new (NodeAsks self.old ps at) result }
     {
         let count = self.tree.nodes.len();
         let int = self.int();
@@ -42,7 +42,7 @@ impl Unifier<'_> {
         match node(self.tree, at) {
             Node::Number(_) => self.unify(at, int),
             Node::Truth(_) => self.unify(at, truth),
-            Node::Variable(distance) => match store.look(env, distance as u32) {
+            Node::Variable(distance) => match force.store.look(force.list, distance as u32) {
                 Ok(place) => self.unify(usize::from(place), at),
                 Err(_) => self.unify(int, at),
             },

@@ -1,7 +1,8 @@
 //! The types of a tree's nodes, as far as they are known.
 ghost use Rattle.std.specs.Prelude.{◌≡◌, ◌+◌, ◌*◌, ◌<◌, ◌≤◌, length, replicate, slice_set};
 ghost use Rattle.std.proofs.Props.{props};
-ghost use Rattle.typing.specs.Classes.{Sound, InOrder-prop};
+ghost use Rattle.typing.specs.Classes.{Sound, InOrder, InOrder-prop};
+ghost use Rattle.typing.specs.Shapes.{first_of, second_of};
 ghost use Rattle.record.specs.Nodes.{node_at};
 
 use crate::shape::Shape;
@@ -11,7 +12,7 @@ use syntax::node::Node;
 /// Two lent tables with an entry each for every place: with n nodes, node i's type stands at place i, a function's
 /// parameter type at place n + i; int is at 2n and bool behind it.
 // Kept: accept is lent two tables of numbers, so the entries of a place stand in one each, and a shape in two numbers.
-// Kept: which numbers are places hangs on the tree, and a field of a type of places could not name it.
+// Kept: a type of places would have to name its tree, and each contract to say that it is this one, as now that a number is a place.
 #[derive(Drop)]
 pub struct Unifier<'a> {
     pub(crate) tree: &'a Received,
@@ -84,29 +85,19 @@ impl<'a> Unifier<'a> {
         Shape::from((self.first[place], self.second[place]))
     }
 
-    /// Makes a place link to a higher one.
-    pub(crate) fn link(&mut self, place: usize, to: usize)
-        requires { (place < free self.old) × (place < to) × IsPlace self.old to }
+    /// Says a shape at a place.
+    pub(crate) fn put(&mut self, place: usize, shape: Shape)
+        requires inside { IsPlace self.old place }
+        requires order { InOrder (free self.old) place shape }
         ensures tree { self.new.tree ≡ self.old.tree }
-        ensures first { self.new.first.now ≡ slice_set self.old.first.now place (to + 1) }
-        ensures second { self.new.second.now ≡ slice_set self.old.second.now place 0 }
+        ensures first { self.new.first.now ≡ slice_set self.old.first.now place (first_of shape) }
+        ensures second { self.new.second.now ≡ slice_set self.old.second.now place (second_of shape) }
     {
-        write_entries(self.first, self.second, place, to as u16 + 1, 0);
-    }
-
-    /// Makes a place an arrow.
-    pub(crate) fn put_arrow(&mut self, place: usize, left: usize, right: usize)
-        requires { (place < free self.old) × IsPlace self.old left × IsPlace self.old right }
-        ensures tree { self.new.tree ≡ self.old.tree }
-        ensures first { self.new.first.now ≡ slice_set self.old.first.now place left }
-        ensures second { self.new.second.now ≡ slice_set self.old.second.now place (right + 1) }
-    {
-        write_entries(
-            self.first,
-            self.second,
-            place,
-            left as u16,
-            right as u16 + 1,
-        );
+        let (left, right) = match shape {
+            Shape::Open => (0, 0),
+            Shape::Link(to) => (to as u16 + 1, 0),
+            Shape::Arrow(left, right) => (left as u16, right as u16 + 1),
+        };
+        write_entries(self.first, self.second, place, left, right);
     }
 }
