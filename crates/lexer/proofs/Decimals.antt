@@ -1,5 +1,5 @@
 -- What digits come to, up to a limit. Assumes nothing.
-use Rattle.std.proofs.Common.{◌≡◌, ℕ, ◌+◌, ◌-◌, ◌*◌, ◌<◌, ◌≤◌, min, List, [], ◌∷◌, ap, ⊎_elim, arith}
+use Rattle.std.proofs.Common.{◌≡◌, ℕ, ◌+◌, ◌-◌, ◌*◌, ◌<◌, ◌≤◌, min, List, [], ◌∷◌, fold, ap, ◌∙◌, ⊎_elim, arith}
 use Rattle.std.proofs.str.Laws.{order}
 use Rattle.grammar.specs.Spelling.{decimal}
 
@@ -20,7 +20,14 @@ decimal_min cs n a =
     (λ (le : a ≤ n). omega (arith, decimal-≤ cs (min n a) n (omega arith), ≤-decimal cs (min n a), ≤-decimal cs n))
     (order n a)
 
--- ── the number of a token from its magnitude ──
+-- one digit more, but no more than a u32 holds
+abbrev pub one_more : ℕ → ℕ → ℕ
+one_more n c = min (min (n * 10) 4294967295 + (c - 48)) 4294967295
 
-past : (d : ℕ) → d < 2147483649 → min d 2147483649 ≡ d
-past d h = omega arith
+-- so many digits, one after another, stop at what a u32 holds
+pub fold_min : (cs : List ℕ) (n : ℕ) → n ≤ 4294967295 → fold one_more n cs ≡ min (decimal n cs) 4294967295
+fold_min [] n h = omega arith
+fold_min (c ∷ cs) n h =
+    let more : ℕ = 10 * n + (c - 48) in
+    let new : one_more n c ≡ min more 4294967295 = omega arith in
+    fold_min cs (one_more n c) (omega arith) ∙ ap (λ k. min (decimal k cs) 4294967295) new ∙ decimal_min cs more 4294967295

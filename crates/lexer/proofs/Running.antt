@@ -23,9 +23,8 @@ module _ (kind : Kind) (s : List ℕ) (from : ℕ) (inside : from ≤ length s) 
       let there = all (i - from) 0 (omega arith) (omega arith) in
       subst (λ c. Is kind c) (get_or-drop from s (i - from) 0 ∙ ap (λ k. get_or s k 0) at) there
 
-  pub run_stops : (n : ℕ) (r : Option ℕ) → r ≡ Some n → First kind s from r → Run kind s from (from + n)
-  run_stops n r is first =
-      let f : First kind s from (Some n) = subst (First kind s from) is first in
+  run_stops : (n : ℕ) → First kind s from (Some n) → Run kind s from (from + n)
+  run_stops n f =
       let long = length-drop from s in
       record {
         from = omega arith;
@@ -34,9 +33,8 @@ module _ (kind : Kind) (s : List ℕ) (from : ℕ) (inside : from ≤ length s) 
         stops = λ more. subst (λ c. IsNot kind c) (get_or-drop from s n 0) (f.1 0);
       }
 
-  pub run_ends : (r : Option ℕ) → r ≡ None → First kind s from r → Run kind s from (length s)
-  run_ends r is first =
-      let f : First kind s from None = subst (First kind s from) is first in
+  run_ends : First kind s from None → Run kind s from (length s)
+  run_ends f =
       let long = length-drop from s in
       let whole : from + length (drop from s) ≡ length s = omega arith in
       record {
@@ -45,3 +43,7 @@ module _ (kind : Kind) (s : List ℕ) (from : ℕ) (inside : from ≤ length s) 
         of_kind = λ i low high. behind (length (drop from s)) f i low (subst (λ n. i < n) (sym whole) high);
         stops = λ more. absurd (omega arith);
       }
+
+  pub run_found : (r : Option ℕ) (stop : ℕ) {Past : ℕ → Type 0} → MatchOption r (stop ≡ length s) Past → ((n : ℕ) → Past n → stop ≡ from + n) → First kind s from r → Run kind s from stop
+  run_found (Some n) stop past is f = subst (Run kind s from) (sym (is n past)) (run_stops n f)
+  run_found None stop end is f = subst (Run kind s from) (sym end) (run_ends f)

@@ -28,9 +28,9 @@ impl Kind {
         requires { from ≤ length text.now }
         ensures { Run self text.now from result }
     {
-        match text[from..].iter().position(|byte| !self.has(*byte)) {
-            Some(length) => from + length,
-            None => text.len(),
-        }
+        text[from..]
+            .iter()
+            .position(|byte| !self.has(*byte))
+            .map_or(text.len(), |length| from + length)
     }
 }

@@ -51,8 +51,5 @@ pub fn is_name(bytes: &[u8]) -> bool
         text: bytes,
         place: 0,
     };
-    match start.token() {
-        Ok(placed) => placed.stop == bytes.len() && placed.token.is_name(),
-        Err(_) => false,
-    }
+    start.token().is_ok_and(|placed| placed.stop == bytes.len() && placed.token.is_name())
 }

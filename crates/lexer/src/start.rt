@@ -66,7 +66,7 @@ impl<'a> Start<'a> {
     fn followed_by(&self, byte: u8) -> bool
         ensures { Followed self.now.text.now self.now.place byte result }
     {
-        self.place + 1 < self.text.len() && self.text[self.place + 1] == byte
+        self.text.get(self.place + 1) == Some(&byte)
     }
 
     /// The token that begins with a minus: an arrow, or a number below zero.
@@ -77,11 +77,10 @@ impl<'a> Start<'a> {
         if self.followed_by(b'>') {
             return Ok(self.sign(Mark::Arrow, 2));
         }
-        let next = self.place + 1;
-        if next < self.text.len() && Kind::Digit.has(self.text[next]) {
-            return Ok(self.number(next));
+        match self.text.get(self.place + 1) {
+            Some(byte) if Kind::Digit.has(*byte) => Ok(self.number(self.place + 1)),
+            _ => Err(LexFault::NoToken(self.place)),
         }
-        Err(LexFault::NoToken(self.place))
     }
 
     /// The word that begins with a letter: a keyword or a name.

@@ -1,10 +1,10 @@
-use Rattle.std.proofs.Common.{sym, refl, arith}
+use Rattle.std.proofs.Common.{◌≡◌, ◌+◌, ◌<◌, length, get_or, sym, refl, rules, tests}
 use Rattle.grammar.specs.declared.Mark.TheVariants.{Arrow}
 use Rattle.grammar.specs.Token.{mark}
 use Rattle.grammar.proofs.Lexing.{longest_two}
 use Rattle.lexer.proofs.Lexemes.{placed, longest_negative, no_minus}
 use Rattle.lexer.proofs.start.Start.minus.Goals as goal
-use Rattle.lexer.proofs.start.Start.minus.Goals.{else-next-self-via-then-next-self+else-has, else-next-self-via-else-next-self}
+use Rattle.lexer.proofs.start.Start.minus.Goals.{in_default-via-in-Some+else-has, in_default-via-in_default}
 
 pub returns-then-followed_by : goal.returns-then-followed_by
 returns-then-followed_by c =
@@ -12,16 +12,20 @@ returns-then-followed_by c =
     let made = c.sign.ensures in
     (made.0, placed _ _ _ _ c.sign.result made.1 (longest_two c.args.self.now.text.now c.args.self.now.place 45 62 (mark Arrow) next.0 c.requires next.1 refl (λ _ _. refl)))
 
-pub returns-then-has : goal.returns-then-has
-returns-then-has c =
+pub returns-in-Some : goal.returns-in-Some
+returns-in-Some c =
     let made = c.number.ensures in
-    (made.0, placed _ _ _ _ c.number.result (refl, made.1.1) (longest_negative _ _ _ c.if-next-self.true c.requires (sym c.if-has.ensures) made.1.0))
+    let s = c.args.self.now.text.now in
+    let place = c.args.self.now.place in
+    let more : place + 1 < length s = search (rules, tests) in
+    let is : c.in-Some.byte.now ≡ get_or s (place + 1) 0 = search (rules, tests) in
+    (made.0, placed _ _ _ _ c.number.result (refl, made.1.1) (longest_negative s place _ more c.requires (rw (sym is) (sym c.if-has.ensures)) made.1.0))
 
-pub returns : goal.returns
-returns c = (
+pub returns-in_default : goal.returns-in_default
+returns-in_default c = (
   refl,
-  no_minus c.args.self.now.text.now c.args.self.now.place c.requires c.if-followed_by.ensures (λ lt. elim c.else-next-self.branch [
-    | else-next-self-via-then-next-self+else-has w ↦ sym w.if-has.ensures
-    | else-next-self-via-else-next-self w ↦ absurd (omega (arith, w.if-next-self.false))
+  no_minus c.args.self.now.text.now c.args.self.now.place c.requires c.if-followed_by.ensures (λ lt. elim c.in_default.branch [
+    | in_default-via-in-Some+else-has w ↦ (let is : w.in-Some.byte.now ≡ get_or c.args.self.now.text.now (c.args.self.now.place + 1) 0 = search (rules, tests) in rw (sym is) (sym w.if-has.ensures))
+    | in_default-via-in_default w ↦ absurd (search (rules, tests))
   ]),
 )
