@@ -21,10 +21,9 @@ impl TryFrom<&[u8]> for Name {
     ghost try_from_gives = { λ name r. Copied name.now r };
 
     fn try_from(name: &[u8]) -> Result<Name, NameFault> {
-        match ArrayVec::try_from(name) {
-            Ok(bytes) => Ok(Name { bytes }),
-            Err(_) => Err(NameFault),
-        }
+        ArrayVec::try_from(name)
+            .map(|bytes| Name { bytes })
+            .map_err(|_| NameFault)
     }
 }
 
