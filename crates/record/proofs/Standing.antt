@@ -1,5 +1,5 @@
 -- Bytes at their places. Assumes nothing.
-use Rattle.std.proofs.Common.{◌≡◌, ℕ, ◌+◌, ◌≤◌, List, [], ◌∷◌, ◌++◌, length, get_or, drop, sym, ap, ◌∙◌, subst, append_assoc, add-zero, arith, length-append}
+use Rattle.std.proofs.Common.{◌≡◌, ℕ, ◌+◌, ◌≤◌, List, [], ◌∷◌, ◌++◌, length, get_or, take, drop, sym, ap, ◌∙◌, subst, append_assoc, add-zero, arith, length-append}
 use Rattle.std.proofs.lemmas.List.{drop_more, drop_all, get_or-append-add}
 use Rattle.record.specs.Bytes.{Stands}
 
@@ -37,3 +37,12 @@ stands_behind v (x ∷ w) =
     let n : length (v ++ (x ∷ [])) ≡ length v + 1 = length-append v (x ∷ []) in
     let rest : Stands (v ++ (x ∷ w)) (length v + 1) w = subst (λ l. Stands l (length v + 1) w) e (subst (λ k. Stands ((v ++ (x ∷ [])) ++ w) k w) n (stands_behind (v ++ (x ∷ [])) w)) in
     (omega arith, first, rest)
+
+-- four bytes from a place on
+pub four_there : (s : List ℕ) (p : ℕ) → p + 4 ≤ length s → take 4 (drop p s) ≡ get_or s p 0 ∷ get_or s (p + 1) 0 ∷ get_or s (p + 1 + 1) 0 ∷ get_or s (p + 1 + 1 + 1) 0 ∷ []
+four_there s p inside =
+    ap (take 4)
+    (drop_more s p 0 (omega arith) ∙ ap (λ l. get_or s p 0 ∷ l)
+    (drop_more s (p + 1) 0 (omega arith) ∙ ap (λ l. get_or s (p + 1) 0 ∷ l)
+    (drop_more s (p + 1 + 1) 0 (omega arith) ∙ ap (λ l. get_or s (p + 1 + 1) 0 ∷ l)
+    (drop_more s (p + 1 + 1 + 1) 0 (omega arith)))))

@@ -4,36 +4,46 @@ use Rattle.syntax.specs.Tree.{Tree, nodes, truth, function, if_else}
 use Rattle.syntax.specs.Record.{encode}
 use Rattle.syntax.specs.declared.node.Node.{Node}
 use Rattle.syntax.specs.declared.node.Node.TheVariants.{Number, Truth, Function, IfElse}
-use Rattle.record.specs.declared.head.Head.{Head}
+use Rattle.syntax.specs.declared.kind.Kind.{Kind}
+use Rattle.syntax.specs.Kinds.{byte_of, kind_of, operands_of}
 use Rattle.record.specs.declared.reader.Reader.{Reader}
 use Rattle.record.specs.Bytes.{Stands}
 use Rattle.record.specs.Nodes.{node_at, Holds}
 use Rattle.record.specs.Proper.{Proper}
 use Rattle.record.specs.Questions.{children, Refused}
-use Rattle.record.specs.Reading.{opening, Opens, Grown, GrownTwice, ReadsTree, ReadsTwo}
-use Rattle.record.proofs.Asking.{kind}
+use Rattle.record.specs.Reading.{Heads, Grown, GrownTwice, ReadsTree, ReadsTwo}
+use Rattle.record.proofs.Asking.{kind, own, own_long, opening, Fine, Opens}
 use Rattle.record.proofs.Growing.{Put, grown_leaf, grown_body, grown_pair, grown_three, grown_twice, fault_behind, fault_behind_two}
 use Rattle.record.proofs.Walking.{past}
 
 -- a node's own bytes were gone over, and a place was taken for it
-pub record Begun (b : ℕ) (before opened : Reader) (h : Head) : Type 0 where
+pub record Begun (b : ℕ) (before opened : Reader) (h : Node) : Type 0 where
   pub opens : Opens before.bytes.now b (length before.nodes.items) before.place h
   pub bytes : opened.bytes.now ≡ before.bytes.now
   pub place : opened.place ≡ before.place + length (opening h)
   pub nodes : opened.nodes.items ≡ before.nodes.items ++ Number (pos 0) ∷ []
 
-pub begun : (b w : ℕ) (before opened : Reader) (h' h : Head) → h' ≡ h → Opens before.bytes.now b (length before.nodes.items) before.place h' → w ≡ length (opening h')
-    → opened.bytes.now ≡ before.bytes.now → opened.place ≡ before.place + w → opened.nodes.items ≡ before.nodes.items ++ Number (pos 0) ∷ [] → Begun b before opened h
-begun b w before opened h' h is opens wide bytes place nodes =
+pub begun : (b : ℕ) (before opened : Reader) (k : Kind) (h : Node) → k ≡ kind_of h → Heads before.bytes.now (length before.nodes.items) before.place k → Stands before.bytes.now (before.place + 1) (own h) → Fine b h
+    → opened.bytes.now ≡ before.bytes.now → opened.place ≡ before.place + (1 + operands_of k) → opened.nodes.items ≡ before.nodes.items ++ Number (pos 0) ∷ [] → Begun b before opened h
+begun b before opened k h is heads operands fine bytes place nodes =
+    let long = own_long h in
     record {
-      opens = subst (λ x. Opens before.bytes.now b (length before.nodes.items) before.place x) is opens;
+      opens = record { among = heads.among; bytes = (heads.here, heads.byte ∙ ap byte_of is, operands); fine = fine };
       bytes = bytes;
-      place = place ∙ ap (λ x. before.place + x) wide ∙ ap (λ x. before.place + length (opening x)) is;
+      place = place ∙ ap (λ k. before.place + (1 + operands_of k)) is ∙ ap (λ n. before.place + n) (let z : 1 + operands_of (kind_of h) ≡ length (opening h) = omega arith in z);
       nodes = nodes;
     }
 
+-- a node that is its kind byte alone
+pub begun_plain : (b : ℕ) (before opened : Reader) (k : Kind) (h : Node) → k ≡ kind_of h → own h ≡ [] → Fine b h → Heads before.bytes.now (length before.nodes.items) before.place k
+    → opened.bytes.now ≡ before.bytes.now → opened.place ≡ before.place + (1 + operands_of k) → opened.nodes.items ≡ before.nodes.items ++ Number (pos 0) ∷ [] → Begun b before opened h
+begun_plain b before opened k h is none fine heads bytes place nodes =
+    let here = heads.here in
+    let inside : before.place + 1 ≤ length before.bytes.now = omega arith in
+    begun b before opened k h is heads (subst (λ w. Stands before.bytes.now (before.place + 1) w) (sym none) inside) fine bytes place nodes
+
 -- a refusal among the children of a node
-pub fault_below : (b k q : ℕ) (before opened : Reader) (h : Head) (cs : List ℕ) → children (kind h) b ≡ cs → b ≤ length before.nodes.items + 8 → Begun b before opened h
+pub fault_below : (b k q : ℕ) (before opened : Reader) (h : Node) (cs : List ℕ) → children (kind h) b ≡ cs → b ≤ length before.nodes.items + 8 → Begun b before opened h
     → ((more : List ℕ) → Refused opened.bytes.now (cs ++ more) (length opened.nodes.items) opened.place k q) → (more : List ℕ) → Refused before.bytes.now (b ∷ more) (length before.nodes.items) before.place k q
 fault_below b k q before opened h cs below small start r more =
     let n = length before.nodes.items in
@@ -85,7 +95,7 @@ done at before mid' mid after node' node at_is same is bytes place nodes =
       nodes = nodes ∙ ap (λ x. set mid'.nodes.items x node') at_is ∙ ap (λ (x : Reader). set x.nodes.items (length before.nodes.items) node') same ∙ ap (λ x. set mid.nodes.items (length before.nodes.items) x) is;
     }
 
-module _ (b : ℕ) (before opened mid after : Reader) (h : Head) (node : Node) (start : Begun b before opened h) (end : Done before mid after node) where
+module _ (b : ℕ) (before opened mid after : Reader) (h : Node) (node : Node) (start : Begun b before opened h) (end : Done before mid after node) where
   made : length before.nodes.items < length mid.nodes.items → Put before.nodes.items opened.nodes.items mid.nodes.items after.nodes.items node
   made room =
       record {
@@ -99,7 +109,7 @@ module _ (b : ℕ) (before opened mid after : Reader) (h : Head) (node : Node) (
   grown same t g = (end.bytes ∙ same ∙ start.bytes, t, subst (λ x. Grown before.bytes.now b before.place before.nodes.items after.nodes.items t x) (sym end.place) g)
 
 -- a node without children
-pub read_leaf : (b : ℕ) (before opened after : Reader) (h : Head) (node : Node) (t : Tree) → Begun b before opened h → Done before opened after node → nodes t ≡ 1 → encode t ≡ opening h → Proper b t
+pub read_leaf : (b : ℕ) (before opened after : Reader) (h : Node) (node : Node) (t : Tree) → Begun b before opened h → Done before opened after node → nodes t ≡ 1 → encode t ≡ opening h → Proper b t
     → (node_at after.nodes.items (length before.nodes.items) ≡ node → Holds after.nodes.items (length before.nodes.items) t) → ReadsTree b before after (Ok tt)
 read_leaf b before opened after h node t start end one code proper holds =
     let s = before.bytes.now in
@@ -110,9 +120,9 @@ read_leaf b before opened after h node t start end one code proper holds =
     let g = grown_leaf before.nodes.items opened.nodes.items opened.nodes.items after.nodes.items node put s b before.place t refl one bytes proper holds in
     grown b before opened opened after h node start end refl t (subst (λ e. Grown s b before.place before.nodes.items after.nodes.items t e) ends g)
 
-pub read_truth : (b : ℕ) (before opened after : Reader) (v : Bool) → Begun b before opened (Head.Truth v) → Done before opened after (Truth v) → ReadsTree b before after (Ok tt)
-read_truth b before opened after true start end = read_leaf b before opened after (Head.Truth true) (Truth true) (truth true) start end refl refl tt (λ e. e)
-read_truth b before opened after false start end = read_leaf b before opened after (Head.Truth false) (Truth false) (truth false) start end refl refl tt (λ e. e)
+pub read_truth : (b : ℕ) (before opened after : Reader) (v : Bool) → Begun b before opened (Node.Truth v) → Done before opened after (Truth v) → ReadsTree b before after (Ok tt)
+read_truth b before opened after true start end = read_leaf b before opened after (Node.Truth true) (Truth true) (truth true) start end refl refl tt (λ e. e)
+read_truth b before opened after false start end = read_leaf b before opened after (Node.Truth false) (Truth false) (truth false) start end refl refl tt (λ e. e)
 
 -- what was read from where the reader stood stands in the record behind the node's own bytes
 below : (s s' : List ℕ) (b p p' e : ℕ) (xs ys : List Node) (t : Tree) → s' ≡ s → p' ≡ p → Grown s' b p' xs ys t e → Grown s b p xs ys t e
@@ -121,17 +131,17 @@ below s s' b p p' e xs ys t same there g = subst (λ x. Grown x b p xs ys t e) s
 both_below : (s s' : List ℕ) (b c p p' m e : ℕ) (xs ys : List Node) (t u : Tree) → s' ≡ s → p' ≡ p → GrownTwice s' b c p' xs ys t u m e → GrownTwice s b c p xs ys t u m e
 both_below s s' b c p p' m e xs ys t u same there g = subst (λ x. GrownTwice x b c p xs ys t u m e) same (subst (λ x. GrownTwice s' b c x xs ys t u m e) there g)
 
-pub read_body : (b : ℕ) (before opened mid after : Reader) (node : Node) (t : Tree) → Begun b before opened Head.Function → Done before mid after node → mid.bytes.now ≡ opened.bytes.now
+pub read_body : (b : ℕ) (before opened mid after : Reader) (node : Node) (t : Tree) → Begun b before opened (Node.Function 0) → Done before mid after node → mid.bytes.now ≡ opened.bytes.now
     → Grown opened.bytes.now (b + 1) opened.place opened.nodes.items mid.nodes.items t mid.place → node ≡ Function (length before.nodes.items + 1) → ReadsTree b before after (Ok tt)
 read_body b before opened mid after node t start end same g is =
     let s = before.bytes.now in
     let counted = g.counted in
     let long : length opened.nodes.items ≡ length before.nodes.items + 1 = ap length start.nodes ∙ length-append before.nodes.items (Number (pos 0) ∷ []) in
-    let put = made b before opened mid after Head.Function node start end (omega arith) in
+    let put = made b before opened mid after (Node.Function 0) node start end (omega arith) in
     let g' = below s opened.bytes.now (b + 1) (before.place + 1) opened.place mid.place opened.nodes.items mid.nodes.items t start.bytes start.place g in
-    grown b before opened mid after Head.Function node start end same (function t) (grown_body before.nodes.items opened.nodes.items mid.nodes.items after.nodes.items node put s b before.place mid.place t is start.opens.bytes g')
+    grown b before opened mid after (Node.Function 0) node start end same (function t) (grown_body before.nodes.items opened.nodes.items mid.nodes.items after.nodes.items node put s b before.place mid.place t is start.opens.bytes g')
 
-pub read_pair : (b c z m : ℕ) (before opened mid after : Reader) (h : Head) (node : Node) (t u v : Tree) → opening h ≡ z ∷ [] → Begun b before opened h → Done before mid after node → mid.bytes.now ≡ opened.bytes.now
+pub read_pair : (b c z m : ℕ) (before opened mid after : Reader) (h : Node) (node : Node) (t u v : Tree) → opening h ≡ z ∷ [] → Begun b before opened h → Done before mid after node → mid.bytes.now ≡ opened.bytes.now
     → GrownTwice opened.bytes.now b c opened.place opened.nodes.items mid.nodes.items t u m mid.place
     → nodes v ≡ 1 + (nodes t + nodes u) → encode v ≡ z ∷ (encode t ++ encode u) → (Proper b t → Proper c u → Proper b v)
     → (m ≡ length before.nodes.items + (1 + nodes t) → node_at after.nodes.items (length before.nodes.items) ≡ node → Holds after.nodes.items (length before.nodes.items + 1) t
@@ -147,7 +157,7 @@ read_pair b c z m before opened mid after h node t u v code start end same g siz
     let g' = both_below s opened.bytes.now b c (before.place + 1) opened.place m mid.place opened.nodes.items mid.nodes.items t u start.bytes there g in
     grown b before opened mid after h node start end same v (grown_pair before.nodes.items opened.nodes.items mid.nodes.items after.nodes.items node put s b c before.place m mid.place z t u v first g' size spelled proper holds)
 
-pub read_three : (b m at third : ℕ) (before opened half mid after : Reader) (node : Node) (t u v : Tree) → Begun b before opened Head.IfElse → Done before mid after node
+pub read_three : (b m at third : ℕ) (before opened half mid after : Reader) (node : Node) (t u v : Tree) → Begun b before opened (Node.IfElse 0 0 0) → Done before mid after node
     → half.bytes.now ≡ opened.bytes.now → GrownTwice opened.bytes.now b b opened.place opened.nodes.items half.nodes.items t u m half.place
     → mid.bytes.now ≡ half.bytes.now → Grown half.bytes.now b half.place half.nodes.items mid.nodes.items v mid.place
     → at ≡ length before.nodes.items → third ≡ length half.nodes.items → node ≡ IfElse (at + 1) m third → ReadsTree b before after (Ok tt)
@@ -156,8 +166,8 @@ read_three b m at third before opened half mid after node t u v start end same g
     let counted = g.counted in
     let more = k.counted in
     let long : length opened.nodes.items ≡ length before.nodes.items + 1 = ap length start.nodes ∙ length-append before.nodes.items (Number (pos 0) ∷ []) in
-    let put = made b before opened mid after Head.IfElse node start end (omega arith) in
+    let put = made b before opened mid after (Node.IfElse 0 0 0) node start end (omega arith) in
     let g' = both_below s opened.bytes.now b b (before.place + 1) opened.place m half.place opened.nodes.items half.nodes.items t u start.bytes start.place g in
     let k' = below s half.bytes.now b half.place half.place mid.place half.nodes.items mid.nodes.items v (same ∙ start.bytes) refl k in
-    grown b before opened mid after Head.IfElse node start end (still ∙ same) (if_else t u v)
+    grown b before opened mid after (Node.IfElse 0 0 0) node start end (still ∙ same) (if_else t u v)
     (grown_three before.nodes.items opened.nodes.items mid.nodes.items after.nodes.items node put s b before.place m half.place mid.place at third half.nodes.items t u v start.opens.bytes g' k' at_is third_is is)

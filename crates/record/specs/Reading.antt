@@ -1,55 +1,37 @@
 -- What reading a record comes to. Assumes nothing.
-use Rattle.std.specs.Prelude.{◌≡◌, ℕ, ◌+◌, ◌-◌, ◌<◌, ◌≤◌, true, false, List, [], ◌∷◌, length, Ok, Err, Result, FitsSigned, slice_index}
+use Rattle.std.specs.Prelude.{◌≡◌, ℕ, ◌+◌, ◌-◌, ◌<◌, ◌≤◌, List, ◌∷◌, length, Ok, Err, Result, slice_index}
 use Rattle.std.proofs.Math.Option.{some, none}
-use Rattle.std.specs.Int.{w32}
 use Rattle.syntax.specs.Tree.{Tree, nodes}
-use Rattle.syntax.specs.Record.{encode, two_bytes, four_bytes, record_of}
+use Rattle.syntax.specs.Record.{encode, two_bytes, record_of}
 use Rattle.record.specs.declared.fault.RecordFault.{RecordFault}
-use Rattle.record.specs.declared.head.Head.{Head}
-use Rattle.record.specs.declared.head.Head.TheVariants.{Number, Truth, Variable, Function, Application, LetIn, Sum, AtMost, IfElse}
+use Rattle.record.specs.declared.fault.RecordFault.TheVariants.{Unbound}
 use Rattle.record.specs.declared.reader.Reader.{Reader}
 use Rattle.record.specs.declared.received.Received.{Received}
+use Rattle.syntax.specs.Kinds.{byte_of, operands_of}
+use Rattle.syntax.specs.declared.kind.Kind.{Kind}
 use Rattle.syntax.specs.declared.node.Node.{Node}
-use Rattle.record.specs.Bytes.{Stands}
+use Rattle.record.specs.Bytes.{Stands, two_at}
 use Rattle.record.specs.Faults.{number_of, place_of}
 use Rattle.record.specs.Nodes.{node_at, Holds}
 use Rattle.record.specs.Proper.{Proper, Sendable}
 use Rattle.record.specs.Questions.{front, asked, Refused, Refusal}
 
--- a node's own bytes
-abbrev pub opening : Head → List ℕ
-opening (Number k) = 1 ∷ four_bytes k
-opening (Truth false) = 2 ∷ []
-opening (Truth true) = 3 ∷ []
-opening (Variable d) = 4 ∷ two_bytes d
-opening Function = 5 ∷ []
-opening Application = 6 ∷ []
-opening LetIn = 7 ∷ []
-opening Sum = 8 ∷ []
-opening AtMost = 9 ∷ []
-opening IfElse = 10 ∷ []
-
--- a number is in range, a variable is bound
-abbrev pub Fine : ℕ → Head → Type 0
-Fine b (Number k) = FitsSigned w32 k
-Fine b (Truth v) = Unit {0}
-Fine b (Variable d) = d < b
-Fine b Function = Unit {0}
-Fine b Application = Unit {0}
-Fine b LetIn = Unit {0}
-Fine b Sum = Unit {0}
-Fine b AtMost = Unit {0}
-Fine b IfElse = Unit {0}
-
--- node n is this one, its bytes at place p
-pub record Opens (s : List ℕ) (b n p : ℕ) (h : Head) : Type 0 where
+-- node n is among the first 512, its kind byte at place p is this kind's, and its number or distance bytes are all there
+pub record Heads (s : List ℕ) (n p : ℕ) (kind : Kind) : Type 0 where
   pub among : n < 512
-  pub bytes : Stands s p (opening h)
-  pub fine : Fine b h
+  pub here : p < length s
+  pub byte : slice_index s p ≡ byte_of kind
+  pub whole : p + (1 + operands_of kind) ≤ length s
 
-abbrev pub Opened : List ℕ → ℕ → ℕ → ℕ → Result Head RecordFault → Type 0
-Opened s b n p (Ok h) = Opens s b n p h
-Opened s b n p (Err f) = asked s b n p ≡ some (number_of f, place_of f)
+-- such a node, or the refusal that it gets however many variables are in force around it
+abbrev pub Headed : List ℕ → ℕ → ℕ → Result Kind RecordFault → Type 0
+Headed s n p (Ok kind) = Heads s n p kind
+Headed s n p (Err f) = (b : ℕ) → asked s b n p ≡ some (number_of f, place_of f)
+
+-- the distance of the variable at place p, below b, or the refusal of one that is not
+abbrev pub Distance : List ℕ → ℕ → ℕ → Result ℕ RecordFault → Type 0
+Distance s p b (Ok d) = (d < b) × Stands s (p + 1) (two_bytes d)
+Distance s p b (Err f) = (f ≡ Unbound p) × (b ≤ two_at s (p + 1))
 
 -- a tree was read from place p to place e, and its nodes were put behind those that stood in the table
 pub record Grown (s : List ℕ) (b p : ℕ) (before after : List Node) (t : Tree) (e : ℕ) : Type 0 where

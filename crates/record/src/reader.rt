@@ -1,8 +1,10 @@
 //! Where reading stands: how far in the bytes, and which nodes were read.
 ghost use Rattle.std.specs.Prelude.{◌≡◌, ◌+◌, ◌<◌, ◌≤◌, [], ◌∷◌, ◌++◌, length, slice_set, pos};
+ghost use Rattle.syntax.specs.Kinds.{operands_of};
 ghost use Rattle.syntax.specs.declared.node.Node.TheVariants.{Number};
 
 use arrayvec::ArrayVec;
+use syntax::kind::Kind;
 use syntax::limits::MOST_NODES;
 use syntax::node::Node;
 
@@ -32,16 +34,16 @@ impl<'a> Reader<'a> {
     }
 
     /// Goes over a node's own bytes, and takes the next place in the table for it, since its children come first.
-    pub(crate) fn open(&mut self, width: usize) -> usize
-        requires there { self.old.place + width ≤ length self.old.bytes.now }
+    pub(crate) fn open(&mut self, kind: Kind) -> usize
+        requires there { self.old.place + (1 + operands_of kind) ≤ length self.old.bytes.now }
         requires few { length self.old.nodes.items < 512 }
         ensures at { result ≡ length self.old.nodes.items }
         ensures bytes { self.new.bytes.now ≡ self.old.bytes.now }
-        ensures place { self.new.place ≡ self.old.place + width }
+        ensures place { self.new.place ≡ self.old.place + (1 + operands_of kind) }
         ensures nodes { self.new.nodes.items ≡ self.old.nodes.items ++ Number (pos 0) ∷ [] }
     {
         let at = self.nodes.len();
-        self.place += width;
+        self.place += 1 + kind.operands();
         self.nodes.push(Node::default());
         at
     }

@@ -1,25 +1,29 @@
 //! A whole record.
 ghost use Rattle.record.specs.Reading.{Judged, Fronted};
 
-use crate::bytes::two_bytes;
 use crate::fault::RecordFault;
 use crate::reader::Reader;
 use crate::received::Received;
+use syntax::limits::{HEAD, MOST_READINGS, VERSION};
 
 /// The count of readings, of a record whose first four bytes are in order.
 fn front(bytes: &[u8]) -> Result<usize, RecordFault>
     ensures { Fronted bytes.now result }
 {
-    if bytes.len() < 2 || two_bytes(bytes, 0) != bytes.len() - 2 {
+    let [high, low, rest @ ..] = bytes else {
+        return Err(RecordFault::Length);
+    };
+    if usize::from(u16::from_be_bytes([*high, *low])) != rest.len() {
         return Err(RecordFault::Length);
     }
-    if bytes.len() < 3 || bytes[2] != 1 {
+    if bytes.get(2) != Some(&VERSION) {
         return Err(RecordFault::Version);
     }
-    if bytes.len() < 4 || bytes[3] > 8 {
-        return Err(RecordFault::Readings);
-    }
-    Ok(usize::from(bytes[3]))
+    bytes
+        .get(3)
+        .map(|readings| usize::from(*readings))
+        .filter(|readings| *readings <= MOST_READINGS)
+        .ok_or(RecordFault::Readings)
 }
 
 /// The tree whose record these bytes are.
@@ -27,7 +31,7 @@ pub fn receive(bytes: &[u8]) -> Result<Received, RecordFault>
     ensures { Judged bytes.now result }
 {
     let readings = front(bytes)?;
-    let mut reader = Reader::new(bytes, 4);
+    let mut reader = Reader::new(bytes, HEAD);
     reader.tree(readings)?;
     let Reader {
         bytes,

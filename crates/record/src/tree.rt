@@ -2,9 +2,11 @@
 ghost use Rattle.std.specs.Prelude.{◌+◌, ◌≤◌, length};
 ghost use Rattle.record.specs.Reading.{ReadsTree, ReadsTwo};
 
+use crate::bytes::four_bytes;
 use crate::fault::RecordFault;
-use crate::head::Head;
+use crate::head::distance;
 use crate::reader::Reader;
+use syntax::kind::Kind;
 use syntax::node::Node;
 
 impl Reader<'_> {
@@ -14,21 +16,23 @@ impl Reader<'_> {
         requires { bound ≤ length self.old.nodes.items + 8 }
         ensures { ReadsTree bound self.old self.new result }
     {
-        let head = self.head(bound)?;
-        let at = self.open(head.width());
-        let node = match head {
-            Head::Number(number) => Node::Number(number),
-            Head::Truth(truth) => Node::Truth(truth),
-            Head::Variable(distance) => Node::Variable(distance),
-            Head::Function => {
+        let kind = self.head()?;
+        let here = self.place;
+        let at = self.open(kind);
+        let node = match kind {
+            Kind::Number => Node::Number(four_bytes(self.bytes, here + 1)),
+            Kind::False => Node::Truth(false),
+            Kind::True => Node::Truth(true),
+            Kind::Variable => Node::Variable(distance(self.bytes, here, bound)?),
+            Kind::Function => {
                 self.tree(bound + 1)?;
                 Node::Function(at + 1)
             }
-            Head::Application => Node::Application(at + 1, self.two(bound, bound)?),
-            Head::LetIn => Node::LetIn(at + 1, self.two(bound, bound + 1)?),
-            Head::Sum => Node::Sum(at + 1, self.two(bound, bound)?),
-            Head::AtMost => Node::AtMost(at + 1, self.two(bound, bound)?),
-            Head::IfElse => {
+            Kind::Application => Node::Application(at + 1, self.two(bound, bound)?),
+            Kind::LetIn => Node::LetIn(at + 1, self.two(bound, bound + 1)?),
+            Kind::Sum => Node::Sum(at + 1, self.two(bound, bound)?),
+            Kind::AtMost => Node::AtMost(at + 1, self.two(bound, bound)?),
+            Kind::IfElse => {
                 let then = self.two(bound, bound)?;
                 let otherwise = self.nodes.len();
                 self.tree(bound)?;

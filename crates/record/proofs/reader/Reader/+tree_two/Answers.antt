@@ -1,100 +1,116 @@
-use Rattle.std.proofs.Common.{◌≡◌, ◌+◌, [], ◌∷◌, refl, ap, ◌∙◌, arith, w32, length, length-append, pos}
+use Rattle.std.proofs.Common.{◌≡◌, ◌+◌, ◌≤◌, true, false, [], ◌∷◌, refl, ap, ◌∙◌, subst, rules, tests, arith, w32, length, length-append, pos}
 use Rattle.std.proofs.lemmas.Int.{to_z-of_z}
 use Rattle.std.proofs.lemmas.Result.{err_from_is_err_and}
 use Rattle.syntax.specs.Tree.{number, variable, application, let_in, sum, at_most}
 use Rattle.syntax.specs.declared.node.Node.{Node}
-use Rattle.record.specs.declared.head.Head.TheVariants.{Number, Variable, Function, Application, LetIn, Sum, AtMost, IfElse}
+use Rattle.syntax.specs.Kinds.{byte_of, operands_of}
+use Rattle.syntax.specs.Record.{two_bytes, four_bytes}
+use Rattle.record.specs.Bytes.{Stands, two_at}
 use Rattle.record.specs.Questions.{here}
+use Rattle.record.proofs.Asking.{unbound}
 use Rattle.record.proofs.Holding.{some_node, some_byte}
-use Rattle.record.proofs.Stepping.{begun, fault_below, done, read_leaf, read_truth, read_body, read_pair, read_three, read_two, fault_after, fault_after_two}
+use Rattle.record.proofs.Stepping.{begun, begun_plain, fault_below, done, read_leaf, read_truth, read_body, read_pair, read_three, read_two, fault_after, fault_after_two}
 use Rattle.record.proofs.reader.Reader.+tree_two.Goals as goal
-use Rattle.record.proofs.reader.Reader.+tree_two.Goals.{tree-in-Number, tree-in-Truth, tree-in-Variable, tree-in-Function+in_ok-tree-in-Function, tree-in-Application+in_ok-two-in-Application, tree-in-LetIn+in_ok-two-in-LetIn, tree-in-Sum+in_ok-two-in-Sum, tree-in-AtMost+in_ok-two-in-AtMost, tree-in-IfElse+in_ok-then-in-IfElse+in_ok-tree-in-IfElse}
+use Rattle.record.proofs.reader.Reader.+tree_two.Goals.{tree-in-Number, tree-in-False, tree-in-True, tree-in-Variable+in_ok-distance-in-Variable, tree-in-Function+in_ok-tree-in-Function, tree-in-Application+in_ok-two-in-Application, tree-in-LetIn+in_ok-two-in-LetIn, tree-in-Sum+in_ok-two-in-Sum, tree-in-AtMost+in_ok-two-in-AtMost, tree-in-IfElse+in_ok-then-in-IfElse+in_ok-tree-in-IfElse}
 
-pub tree-returns-in_err-head : goal.tree-returns-in_err-head
-tree-returns-in_err-head t c =
+pub tree-returns-in_err-kind : goal.tree-returns-in_err-kind
+tree-returns-in_err-kind t c =
     let p = err_from_is_err_and c.from_residual.result c.from_residual.ensures.1 in
-    rw (p.1, p.2) (λ more. here c.in_err-head.ensures)
+    rw (p.1, p.2) (λ more. here (c.in_err-kind.ensures c.args.bound))
+
+pub tree-returns-in_err-distance-in-Variable : goal.tree-returns-in_err-distance-in-Variable
+tree-returns-in_err-distance-in-Variable t c =
+    let p = err_from_is_err_and c.from_residual-in_err-distance-in-Variable.result c.from_residual-in_err-distance-in-Variable.ensures.1 in
+    let told = c.in_err-distance-in-Variable.ensures in
+    let head = c.in_ok-kind.ensures in
+    let wide = ap operands_of c.in-Variable.is in
+    let whole = head.whole in
+    rw (p.1, p.2, told.0) (λ more. here (unbound c.args.self.now.bytes.now c.args.bound (length c.args.self.now.nodes.items) c.args.self.now.place head.among (omega arith) (head.byte ∙ ap byte_of c.in-Variable.is) (subst (λ x. c.args.bound ≤ two_at x (c.args.self.now.place + 1)) c.open-at.ensures.bytes told.1)))
 
 pub tree-returns-in_err-tree-in-Function : goal.tree-returns-in_err-tree-in-Function
 tree-returns-in_err-tree-in-Function t c =
     let p = err_from_is_err_and c.from_residual-in_err-tree-in-Function.result c.from_residual-in_err-tree-in-Function.ensures.1 in
-    let start = begun _ _ c.args.self.now c.open-at.new.self _ _ c.in-Function.is c.in_ok-head.ensures c.width.ensures c.open-at.ensures.bytes c.open-at.ensures.place c.open-at.ensures.nodes in
-    rw (p.1, p.2) (fault_below _ _ _ _ _ Function ((c.args.bound + 1) ∷ []) refl c.requires start c.in_err-tree-in-Function.ensures)
+    let start = begun_plain _ c.args.self.now c.open-at.new.self _ (Node.Function 0) c.in-Function.is refl tt c.in_ok-kind.ensures c.open-at.ensures.bytes c.open-at.ensures.place c.open-at.ensures.nodes in
+    rw (p.1, p.2) (fault_below _ _ _ _ _ (Node.Function 0) ((c.args.bound + 1) ∷ []) refl c.requires start c.in_err-tree-in-Function.ensures)
 
 pub tree-returns-in_err-two-in-Application : goal.tree-returns-in_err-two-in-Application
 tree-returns-in_err-two-in-Application t c =
     let p = err_from_is_err_and c.from_residual-in_err-two-in-Application.result c.from_residual-in_err-two-in-Application.ensures.1 in
-    let start = begun _ _ c.args.self.now c.open-at.new.self _ _ c.in-Application.is c.in_ok-head.ensures c.width.ensures c.open-at.ensures.bytes c.open-at.ensures.place c.open-at.ensures.nodes in
-    rw (p.1, p.2) (fault_below _ _ _ _ _ Application (c.args.bound ∷ c.args.bound ∷ []) refl c.requires start c.in_err-two-in-Application.ensures)
+    let start = begun_plain _ c.args.self.now c.open-at.new.self _ (Node.Application 0 0) c.in-Application.is refl tt c.in_ok-kind.ensures c.open-at.ensures.bytes c.open-at.ensures.place c.open-at.ensures.nodes in
+    rw (p.1, p.2) (fault_below _ _ _ _ _ (Node.Application 0 0) (c.args.bound ∷ c.args.bound ∷ []) refl c.requires start c.in_err-two-in-Application.ensures)
 
 pub tree-returns-in_err-two-in-LetIn : goal.tree-returns-in_err-two-in-LetIn
 tree-returns-in_err-two-in-LetIn t c =
     let p = err_from_is_err_and c.from_residual-in_err-two-in-LetIn.result c.from_residual-in_err-two-in-LetIn.ensures.1 in
-    let start = begun _ _ c.args.self.now c.open-at.new.self _ _ c.in-LetIn.is c.in_ok-head.ensures c.width.ensures c.open-at.ensures.bytes c.open-at.ensures.place c.open-at.ensures.nodes in
-    rw (p.1, p.2) (fault_below _ _ _ _ _ LetIn (c.args.bound ∷ (c.args.bound + 1) ∷ []) refl c.requires start c.in_err-two-in-LetIn.ensures)
+    let start = begun_plain _ c.args.self.now c.open-at.new.self _ (Node.LetIn 0 0) c.in-LetIn.is refl tt c.in_ok-kind.ensures c.open-at.ensures.bytes c.open-at.ensures.place c.open-at.ensures.nodes in
+    rw (p.1, p.2) (fault_below _ _ _ _ _ (Node.LetIn 0 0) (c.args.bound ∷ (c.args.bound + 1) ∷ []) refl c.requires start c.in_err-two-in-LetIn.ensures)
 
 pub tree-returns-in_err-two-in-Sum : goal.tree-returns-in_err-two-in-Sum
 tree-returns-in_err-two-in-Sum t c =
     let p = err_from_is_err_and c.from_residual-in_err-two-in-Sum.result c.from_residual-in_err-two-in-Sum.ensures.1 in
-    let start = begun _ _ c.args.self.now c.open-at.new.self _ _ c.in-Sum.is c.in_ok-head.ensures c.width.ensures c.open-at.ensures.bytes c.open-at.ensures.place c.open-at.ensures.nodes in
-    rw (p.1, p.2) (fault_below _ _ _ _ _ Sum (c.args.bound ∷ c.args.bound ∷ []) refl c.requires start c.in_err-two-in-Sum.ensures)
+    let start = begun_plain _ c.args.self.now c.open-at.new.self _ (Node.Sum 0 0) c.in-Sum.is refl tt c.in_ok-kind.ensures c.open-at.ensures.bytes c.open-at.ensures.place c.open-at.ensures.nodes in
+    rw (p.1, p.2) (fault_below _ _ _ _ _ (Node.Sum 0 0) (c.args.bound ∷ c.args.bound ∷ []) refl c.requires start c.in_err-two-in-Sum.ensures)
 
 pub tree-returns-in_err-two-in-AtMost : goal.tree-returns-in_err-two-in-AtMost
 tree-returns-in_err-two-in-AtMost t c =
     let p = err_from_is_err_and c.from_residual-in_err-two-in-AtMost.result c.from_residual-in_err-two-in-AtMost.ensures.1 in
-    let start = begun _ _ c.args.self.now c.open-at.new.self _ _ c.in-AtMost.is c.in_ok-head.ensures c.width.ensures c.open-at.ensures.bytes c.open-at.ensures.place c.open-at.ensures.nodes in
-    rw (p.1, p.2) (fault_below _ _ _ _ _ AtMost (c.args.bound ∷ c.args.bound ∷ []) refl c.requires start c.in_err-two-in-AtMost.ensures)
+    let start = begun_plain _ c.args.self.now c.open-at.new.self _ (Node.AtMost 0 0) c.in-AtMost.is refl tt c.in_ok-kind.ensures c.open-at.ensures.bytes c.open-at.ensures.place c.open-at.ensures.nodes in
+    rw (p.1, p.2) (fault_below _ _ _ _ _ (Node.AtMost 0 0) (c.args.bound ∷ c.args.bound ∷ []) refl c.requires start c.in_err-two-in-AtMost.ensures)
 
 pub tree-returns-in_err-then-in-IfElse : goal.tree-returns-in_err-then-in-IfElse
 tree-returns-in_err-then-in-IfElse t c =
     let p = err_from_is_err_and c.from_residual-in_err-then-in-IfElse.result c.from_residual-in_err-then-in-IfElse.ensures.1 in
-    let start = begun _ _ c.args.self.now c.open-at.new.self _ _ c.in-IfElse.is c.in_ok-head.ensures c.width.ensures c.open-at.ensures.bytes c.open-at.ensures.place c.open-at.ensures.nodes in
-    rw (p.1, p.2) (fault_below _ _ _ _ _ IfElse (c.args.bound ∷ c.args.bound ∷ c.args.bound ∷ []) refl c.requires start (λ more. c.in_err-then-in-IfElse.ensures (c.args.bound ∷ more)))
+    let start = begun_plain _ c.args.self.now c.open-at.new.self _ (Node.IfElse 0 0 0) c.in-IfElse.is refl tt c.in_ok-kind.ensures c.open-at.ensures.bytes c.open-at.ensures.place c.open-at.ensures.nodes in
+    rw (p.1, p.2) (fault_below _ _ _ _ _ (Node.IfElse 0 0 0) (c.args.bound ∷ c.args.bound ∷ c.args.bound ∷ []) refl c.requires start (λ more. c.in_err-then-in-IfElse.ensures (c.args.bound ∷ more)))
 
 pub tree-returns-in_err-tree-in-IfElse : goal.tree-returns-in_err-tree-in-IfElse
 tree-returns-in_err-tree-in-IfElse t c =
     let p = err_from_is_err_and c.from_residual-in_err-tree-in-IfElse.result c.from_residual-in_err-tree-in-IfElse.ensures.1 in
-    let start = begun _ _ c.args.self.now c.open-at.new.self _ _ c.in-IfElse.is c.in_ok-head.ensures c.width.ensures c.open-at.ensures.bytes c.open-at.ensures.place c.open-at.ensures.nodes in
+    let start = begun_plain _ c.args.self.now c.open-at.new.self _ (Node.IfElse 0 0 0) c.in-IfElse.is refl tt c.in_ok-kind.ensures c.open-at.ensures.bytes c.open-at.ensures.place c.open-at.ensures.nodes in
     let g = c.in_ok-then-in-IfElse.ensures in
     let bound = c.requires in
     let long : length c.open-at.new.self.nodes.items ≡ length c.args.self.now.nodes.items + 1 = ap length start.nodes ∙ length-append c.args.self.now.nodes.items (Node.Number (pos 0) ∷ []) in
-    rw (p.1, p.2) (fault_below _ _ _ _ _ IfElse (c.args.bound ∷ c.args.bound ∷ c.args.bound ∷ []) refl c.requires start
+    rw (p.1, p.2) (fault_below _ _ _ _ _ (Node.IfElse 0 0 0) (c.args.bound ∷ c.args.bound ∷ c.args.bound ∷ []) refl c.requires start
     (λ more. fault_after_two _ _ _ _ _ c.open-at.new.self c.two-in-IfElse.new.self g.1 g.2 (c.args.bound ∷ more) (omega arith) (omega arith) g.0 g.3 (c.in_err-tree-in-IfElse.ensures more)))
 
 pub tree-returns : goal.tree-returns
 tree-returns t c =
-    let opens = c.in_ok-head.ensures in
-    elim c.match-head.branch [
-      | tree-in-Number w ↦ (let start = begun _ _ c.args.self.now c.open-at.new.self _ _ w.in-Number.is opens c.width.ensures c.open-at.ensures.bytes c.open-at.ensures.place c.open-at.ensures.nodes in
-          let end = done _ c.args.self.now c.match-head.self c.open-at.new.self c.put.new.self _ _ c.open-at.ensures.at w.self-is w.node-is c.put.ensures.bytes c.put.ensures.place c.put.ensures.nodes in
-          read_leaf _ _ _ _ (Number w.in-Number.number) _ (number w.in-Number.number) start end refl refl start.opens.fine (λ root. root ∙ ap (λ k. Node.Number k) (to_z-of_z w32 w.in-Number.number start.opens.fine)))
-      | tree-in-Truth w ↦ (let start = begun _ _ c.args.self.now c.open-at.new.self _ _ w.in-Truth.is opens c.width.ensures c.open-at.ensures.bytes c.open-at.ensures.place c.open-at.ensures.nodes in
-          let end = done _ c.args.self.now c.match-head.self c.open-at.new.self c.put.new.self _ _ c.open-at.ensures.at w.self-is w.node-is c.put.ensures.bytes c.put.ensures.place c.put.ensures.nodes in
+    elim c.match-kind.branch [
+      | tree-in-Number w ↦ (let start = begun c.args.bound c.args.self.now c.open-at.new.self _ (Node.Number w.four_bytes.result) w.in-Number.is c.in_ok-kind.ensures (subst (λ x. Stands x (c.args.self.now.place + 1) (four_bytes w.four_bytes.result)) c.open-at.ensures.bytes w.four_bytes.ensures.bytes) (search (rules, tests)) c.open-at.ensures.bytes c.open-at.ensures.place c.open-at.ensures.nodes in
+          let end = done _ c.args.self.now c.match-kind.self c.open-at.new.self c.put.new.self _ _ c.open-at.ensures.at w.self-is w.node-is c.put.ensures.bytes c.put.ensures.place c.put.ensures.nodes in
+          read_leaf _ _ _ _ (Node.Number w.four_bytes.result) _ (number w.four_bytes.result) start end refl refl start.opens.fine (λ root. root ∙ ap (λ k. Node.Number k) (to_z-of_z w32 w.four_bytes.result start.opens.fine)))
+      | tree-in-False w ↦ (let start = begun_plain _ c.args.self.now c.open-at.new.self _ (Node.Truth false) w.in-False.is refl tt c.in_ok-kind.ensures c.open-at.ensures.bytes c.open-at.ensures.place c.open-at.ensures.nodes in
+          let end = done _ c.args.self.now c.match-kind.self c.open-at.new.self c.put.new.self _ _ c.open-at.ensures.at w.self-is w.node-is c.put.ensures.bytes c.put.ensures.place c.put.ensures.nodes in
           read_truth _ _ _ _ _ start end)
-      | tree-in-Variable w ↦ (let start = begun _ _ c.args.self.now c.open-at.new.self _ _ w.in-Variable.is opens c.width.ensures c.open-at.ensures.bytes c.open-at.ensures.place c.open-at.ensures.nodes in
-          let end = done _ c.args.self.now c.match-head.self c.open-at.new.self c.put.new.self _ _ c.open-at.ensures.at w.self-is w.node-is c.put.ensures.bytes c.put.ensures.place c.put.ensures.nodes in
-          read_leaf _ _ _ _ (Variable w.in-Variable.distance) _ (variable w.in-Variable.distance) start end refl refl start.opens.fine (λ root. root))
-      | tree-in-Function+in_ok-tree-in-Function w ↦ (let start = begun _ _ c.args.self.now c.open-at.new.self _ _ w.in-Function.is opens c.width.ensures c.open-at.ensures.bytes c.open-at.ensures.place c.open-at.ensures.nodes in
-          let end = done _ c.args.self.now c.match-head.self w.tree.new.self c.put.new.self _ _ c.open-at.ensures.at w.self-is w.node-is c.put.ensures.bytes c.put.ensures.place c.put.ensures.nodes in
+      | tree-in-True w ↦ (let start = begun_plain _ c.args.self.now c.open-at.new.self _ (Node.Truth true) w.in-True.is refl tt c.in_ok-kind.ensures c.open-at.ensures.bytes c.open-at.ensures.place c.open-at.ensures.nodes in
+          let end = done _ c.args.self.now c.match-kind.self c.open-at.new.self c.put.new.self _ _ c.open-at.ensures.at w.self-is w.node-is c.put.ensures.bytes c.put.ensures.place c.put.ensures.nodes in
+          read_truth _ _ _ _ _ start end)
+      | tree-in-Variable+in_ok-distance-in-Variable w ↦ (let d = w.in_ok-distance-in-Variable.field-0 in
+          let told = w.in_ok-distance-in-Variable.ensures in
+          let start = begun c.args.bound c.args.self.now c.open-at.new.self _ (Node.Variable d) w.in-Variable.is c.in_ok-kind.ensures (subst (λ x. Stands x (c.args.self.now.place + 1) (two_bytes d)) c.open-at.ensures.bytes told.1) told.0 c.open-at.ensures.bytes c.open-at.ensures.place c.open-at.ensures.nodes in
+          let end = done _ c.args.self.now c.match-kind.self c.open-at.new.self c.put.new.self _ _ c.open-at.ensures.at w.self-is w.node-is c.put.ensures.bytes c.put.ensures.place c.put.ensures.nodes in
+          read_leaf _ _ _ _ (Node.Variable d) _ (variable d) start end refl refl start.opens.fine (λ root. root))
+      | tree-in-Function+in_ok-tree-in-Function w ↦ (let start = begun_plain _ c.args.self.now c.open-at.new.self _ (Node.Function 0) w.in-Function.is refl tt c.in_ok-kind.ensures c.open-at.ensures.bytes c.open-at.ensures.place c.open-at.ensures.nodes in
+          let end = done _ c.args.self.now c.match-kind.self w.tree.new.self c.put.new.self _ _ c.open-at.ensures.at w.self-is w.node-is c.put.ensures.bytes c.put.ensures.place c.put.ensures.nodes in
           let g = w.in_ok-tree-in-Function.ensures in read_body _ _ _ _ _ _ g.1 start end g.0 g.2 (ap (λ n. Node.Function (n + 1)) c.open-at.ensures.at))
-      | tree-in-Application+in_ok-two-in-Application w ↦ (let start = begun _ _ c.args.self.now c.open-at.new.self _ _ w.in-Application.is opens c.width.ensures c.open-at.ensures.bytes c.open-at.ensures.place c.open-at.ensures.nodes in
-          let end = done _ c.args.self.now c.match-head.self w.two.new.self c.put.new.self _ _ c.open-at.ensures.at w.self-is w.node-is c.put.ensures.bytes c.put.ensures.place c.put.ensures.nodes in
+      | tree-in-Application+in_ok-two-in-Application w ↦ (let start = begun_plain _ c.args.self.now c.open-at.new.self _ (Node.Application 0 0) w.in-Application.is refl tt c.in_ok-kind.ensures c.open-at.ensures.bytes c.open-at.ensures.place c.open-at.ensures.nodes in
+          let end = done _ c.args.self.now c.match-kind.self w.two.new.self c.put.new.self _ _ c.open-at.ensures.at w.self-is w.node-is c.put.ensures.bytes c.put.ensures.place c.put.ensures.nodes in
           let g = w.in_ok-two-in-Application.ensures in
-          read_pair _ _ 6 _ _ _ _ _ Application _ g.1 g.2 (application g.1 g.2) refl start end g.0 g.3 refl refl (λ x y. (x, y)) (λ second root x y. (root ∙ ap (λ n. Node.Application (n + 1) w.in_ok-two-in-Application.field-0) c.open-at.ensures.at ∙ ap (λ n. Node.Application (length c.args.self.now.nodes.items + 1) n) second, x, y)))
-      | tree-in-LetIn+in_ok-two-in-LetIn w ↦ (let start = begun _ _ c.args.self.now c.open-at.new.self _ _ w.in-LetIn.is opens c.width.ensures c.open-at.ensures.bytes c.open-at.ensures.place c.open-at.ensures.nodes in
-          let end = done _ c.args.self.now c.match-head.self w.two-in-LetIn.new.self c.put.new.self _ _ c.open-at.ensures.at w.self-is w.node-is c.put.ensures.bytes c.put.ensures.place c.put.ensures.nodes in
+          read_pair _ _ 6 _ _ _ _ _ (Node.Application 0 0) _ g.1 g.2 (application g.1 g.2) refl start end g.0 g.3 refl refl (λ x y. (x, y)) (λ second root x y. (root ∙ ap (λ n. Node.Application (n + 1) w.in_ok-two-in-Application.field-0) c.open-at.ensures.at ∙ ap (λ n. Node.Application (length c.args.self.now.nodes.items + 1) n) second, x, y)))
+      | tree-in-LetIn+in_ok-two-in-LetIn w ↦ (let start = begun_plain _ c.args.self.now c.open-at.new.self _ (Node.LetIn 0 0) w.in-LetIn.is refl tt c.in_ok-kind.ensures c.open-at.ensures.bytes c.open-at.ensures.place c.open-at.ensures.nodes in
+          let end = done _ c.args.self.now c.match-kind.self w.two-in-LetIn.new.self c.put.new.self _ _ c.open-at.ensures.at w.self-is w.node-is c.put.ensures.bytes c.put.ensures.place c.put.ensures.nodes in
           let g = w.in_ok-two-in-LetIn.ensures in
-          read_pair _ _ 7 _ _ _ _ _ LetIn _ g.1 g.2 (let_in g.1 g.2) refl start end g.0 g.3 refl refl (λ x y. (x, y)) (λ second root x y. (root ∙ ap (λ n. Node.LetIn (n + 1) w.in_ok-two-in-LetIn.field-0) c.open-at.ensures.at ∙ ap (λ n. Node.LetIn (length c.args.self.now.nodes.items + 1) n) second, x, y)))
-      | tree-in-Sum+in_ok-two-in-Sum w ↦ (let start = begun _ _ c.args.self.now c.open-at.new.self _ _ w.in-Sum.is opens c.width.ensures c.open-at.ensures.bytes c.open-at.ensures.place c.open-at.ensures.nodes in
-          let end = done _ c.args.self.now c.match-head.self w.two-in-Sum.new.self c.put.new.self _ _ c.open-at.ensures.at w.self-is w.node-is c.put.ensures.bytes c.put.ensures.place c.put.ensures.nodes in
+          read_pair _ _ 7 _ _ _ _ _ (Node.LetIn 0 0) _ g.1 g.2 (let_in g.1 g.2) refl start end g.0 g.3 refl refl (λ x y. (x, y)) (λ second root x y. (root ∙ ap (λ n. Node.LetIn (n + 1) w.in_ok-two-in-LetIn.field-0) c.open-at.ensures.at ∙ ap (λ n. Node.LetIn (length c.args.self.now.nodes.items + 1) n) second, x, y)))
+      | tree-in-Sum+in_ok-two-in-Sum w ↦ (let start = begun_plain _ c.args.self.now c.open-at.new.self _ (Node.Sum 0 0) w.in-Sum.is refl tt c.in_ok-kind.ensures c.open-at.ensures.bytes c.open-at.ensures.place c.open-at.ensures.nodes in
+          let end = done _ c.args.self.now c.match-kind.self w.two-in-Sum.new.self c.put.new.self _ _ c.open-at.ensures.at w.self-is w.node-is c.put.ensures.bytes c.put.ensures.place c.put.ensures.nodes in
           let g = w.in_ok-two-in-Sum.ensures in
-          read_pair _ _ 8 _ _ _ _ _ Sum _ g.1 g.2 (sum g.1 g.2) refl start end g.0 g.3 refl refl (λ x y. (x, y)) (λ second root x y. (root ∙ ap (λ n. Node.Sum (n + 1) w.in_ok-two-in-Sum.field-0) c.open-at.ensures.at ∙ ap (λ n. Node.Sum (length c.args.self.now.nodes.items + 1) n) second, x, y)))
-      | tree-in-AtMost+in_ok-two-in-AtMost w ↦ (let start = begun _ _ c.args.self.now c.open-at.new.self _ _ w.in-AtMost.is opens c.width.ensures c.open-at.ensures.bytes c.open-at.ensures.place c.open-at.ensures.nodes in
-          let end = done _ c.args.self.now c.match-head.self w.two-in-AtMost.new.self c.put.new.self _ _ c.open-at.ensures.at w.self-is w.node-is c.put.ensures.bytes c.put.ensures.place c.put.ensures.nodes in
+          read_pair _ _ 8 _ _ _ _ _ (Node.Sum 0 0) _ g.1 g.2 (sum g.1 g.2) refl start end g.0 g.3 refl refl (λ x y. (x, y)) (λ second root x y. (root ∙ ap (λ n. Node.Sum (n + 1) w.in_ok-two-in-Sum.field-0) c.open-at.ensures.at ∙ ap (λ n. Node.Sum (length c.args.self.now.nodes.items + 1) n) second, x, y)))
+      | tree-in-AtMost+in_ok-two-in-AtMost w ↦ (let start = begun_plain _ c.args.self.now c.open-at.new.self _ (Node.AtMost 0 0) w.in-AtMost.is refl tt c.in_ok-kind.ensures c.open-at.ensures.bytes c.open-at.ensures.place c.open-at.ensures.nodes in
+          let end = done _ c.args.self.now c.match-kind.self w.two-in-AtMost.new.self c.put.new.self _ _ c.open-at.ensures.at w.self-is w.node-is c.put.ensures.bytes c.put.ensures.place c.put.ensures.nodes in
           let g = w.in_ok-two-in-AtMost.ensures in
-          read_pair _ _ 9 _ _ _ _ _ AtMost _ g.1 g.2 (at_most g.1 g.2) refl start end g.0 g.3 refl refl (λ x y. (x, y)) (λ second root x y. (root ∙ ap (λ n. Node.AtMost (n + 1) w.in_ok-two-in-AtMost.field-0) c.open-at.ensures.at ∙ ap (λ n. Node.AtMost (length c.args.self.now.nodes.items + 1) n) second, x, y)))
-      | tree-in-IfElse+in_ok-then-in-IfElse+in_ok-tree-in-IfElse w ↦ (let start = begun _ _ c.args.self.now c.open-at.new.self _ _ w.in-IfElse.is opens c.width.ensures c.open-at.ensures.bytes c.open-at.ensures.place c.open-at.ensures.nodes in
-          let end = done _ c.args.self.now c.match-head.self w.tree-in-IfElse.new.self c.put.new.self _ _ c.open-at.ensures.at w.self-is w.node-is c.put.ensures.bytes c.put.ensures.place c.put.ensures.nodes in
+          read_pair _ _ 9 _ _ _ _ _ (Node.AtMost 0 0) _ g.1 g.2 (at_most g.1 g.2) refl start end g.0 g.3 refl refl (λ x y. (x, y)) (λ second root x y. (root ∙ ap (λ n. Node.AtMost (n + 1) w.in_ok-two-in-AtMost.field-0) c.open-at.ensures.at ∙ ap (λ n. Node.AtMost (length c.args.self.now.nodes.items + 1) n) second, x, y)))
+      | tree-in-IfElse+in_ok-then-in-IfElse+in_ok-tree-in-IfElse w ↦ (let start = begun_plain _ c.args.self.now c.open-at.new.self _ (Node.IfElse 0 0 0) w.in-IfElse.is refl tt c.in_ok-kind.ensures c.open-at.ensures.bytes c.open-at.ensures.place c.open-at.ensures.nodes in
+          let end = done _ c.args.self.now c.match-kind.self w.tree-in-IfElse.new.self c.put.new.self _ _ c.open-at.ensures.at w.self-is w.node-is c.put.ensures.bytes c.put.ensures.place c.put.ensures.nodes in
           let g = w.in_ok-then-in-IfElse.ensures in let k = w.in_ok-tree-in-IfElse.ensures in read_three _ _ _ _ _ _ w.two-in-IfElse.new.self _ _ _ g.1 g.2 k.1 start end g.0 g.3 k.0 k.2 c.open-at.ensures.at w.len-otherwise.ensures.value refl)
     ]
 
