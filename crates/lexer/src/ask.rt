@@ -42,10 +42,9 @@ impl Token<'_> {
     pub fn starts_atom(&self) -> bool
         ensures { result ≡ starts_atom (shown self.now) }
     {
-        match self {
-            Token::Name(_) | Token::Number(_) => true,
-            Token::Mark(Mark::True) | Token::Mark(Mark::False) | Token::Mark(Mark::Open) => true,
-            _ => false,
-        }
+        matches!(
+            self,
+            Token::Name(_) | Token::Number(_) | Token::Mark(Mark::True | Mark::False | Mark::Open)
+        )
     }
 }

@@ -16,9 +16,8 @@ pub fn next_part<'a>(text: &'a [u8], from: usize) -> Result<Placed<'a>, LexFault
 {
     let place = Kind::Blank.run(text, from.min(text.len()));
     if place >= text.len() {
-        let token = Token::End;
         return Ok(Placed {
-            token,
+            token: Token::End,
             place,
             stop: place,
         });

@@ -53,12 +53,10 @@ impl<'a> Start<'a> {
         requires { self.now.place + width ≤ length self.now.text.now }
         ensures { (result.place ≡ self.now.place) × ((result.stop ≡ self.now.place + width) × (shown result.token ≡ Rattle.grammar.specs.Token.mark «mark»)) }
     {
-        let token = Token::Mark(mark);
-        let place = self.place;
         Placed {
-            token,
-            place,
-            stop: place + width,
+            token: Token::Mark(mark),
+            place: self.place,
+            stop: self.place + width,
         }
     }
 

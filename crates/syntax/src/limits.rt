@@ -9,7 +9,8 @@ pub const MOST_NODES: usize = 512;
 /// The version that a record announces.
 pub const VERSION: u8 = 1;
 
-/// How many bytes of a record stand before the tree: two for the count of the rest, the version, and the count of readings.
+/// How many bytes of a record stand before the tree: the count of the rest in two, the version, and the count of
+/// readings.
 pub const HEAD: usize = 4;
 
 /// As many bytes as a record can have: 4 before the tree, and 512 nodes of at most 5.
