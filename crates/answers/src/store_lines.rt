@@ -92,9 +92,9 @@ fn answer_call<S: Store<Elem = Value>>(
             }
             Err(fault) => Ok(Answer::Refused(fault)),
         },
-        Call::Look { handle, index } => match store.look(handle, index) {
-            Ok(value) => Ok(Answer::Found(value)),
-            Err(fault) => Ok(Answer::Refused(fault)),
-        },
+        Call::Look { handle, index } => {
+            let looked = store.look(handle, index);
+            Ok(looked.map_or_else(|fault| Answer::Refused(fault), |value| Answer::Found(value)))
+        }
     }
 }

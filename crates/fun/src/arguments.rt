@@ -60,6 +60,14 @@ struct Given<'a> {
 }
 
 impl<'a> Given<'a> {
+    /// Nothing yet.
+    fn new(heap: Global) -> Given<'a> {
+        Given {
+            file: None,
+            names: Vec::new(heap),
+        }
+    }
+
     fn add(&mut self, word: &'a str) -> Result<(), AllocFailed<&'a str>> {
         match self.file {
             None => self.file = Some(word),
@@ -100,10 +108,7 @@ fn explain<'a>(heap: Global, words: &'a [String]) -> Result<Command<'a>, Failure
 }
 
 fn compile<'a>(heap: Global, words: &'a [String]) -> Result<Command<'a>, Failure> {
-    let mut given = Given {
-        file: None,
-        names: Vec::new(heap),
-    };
+    let mut given = Given::new(heap);
     let mut out = None;
     let mut room = MOST_RECORD;
     let mut awaited = None;
@@ -145,17 +150,13 @@ fn awaited_by(heap: Global, option: &str) -> Result<Awaited, Failure> {
 
 /// A count of bytes; more than a record can have is as good as enough.
 fn room_of(heap: Global, word: &str) -> Result<usize, Failure> {
-    match word.parse::<usize>() {
-        Ok(room) => Ok(room.min(MOST_RECORD)),
-        Err(_) => Err(wrong(heap, format_args!("compile: `{word}` is no count of bytes"))),
-    }
+    word.parse::<usize>()
+        .map(|room| room.min(MOST_RECORD))
+        .map_err(|_| wrong(heap, format_args!("compile: `{word}` is no count of bytes")))
 }
 
 fn check<'a>(heap: Global, words: &'a [String]) -> Result<Command<'a>, Failure> {
-    let mut given = Given {
-        file: None,
-        names: Vec::new(heap),
-    };
+    let mut given = Given::new(heap);
     let mut record = false;
     for word in words {
         match Word::from(word.as_str()) {

@@ -8,25 +8,25 @@ use std::fmt;
 use verdicts::verdict::{Accepted, verdict_on};
 
 /// Compiles a text, and prints the type of its rule.
-pub(crate) fn check(rt: &HostRuntime, heap: Global, origin: &Origin) -> Result<String, Failure> {
-    let fetched = Fetched::from(rt, heap, origin)?;
+pub(crate) fn check(rt: &HostRuntime, origin: &Origin) -> Result<String, Failure> {
+    let heap = rt.alloc();
+    let fetched = Fetched::from(rt, origin)?;
     let rule = fetched.rule(origin);
     let record = record_of(heap, rule)?;
     let file = rule.file();
-    match verdict_on(heap, record.as_slice())? {
-        Ok(accepted) => Ok(told(heap, file.name, record.len(), &accepted)?),
-        Err(refused) => Err(Failure::told(heap, &refused.in_text(heap, file)?)),
-    }
+    let accepted = verdict_on(heap, record.as_slice())?
+        .try_map_err(|refused| Ok(Failure::told(heap, &refused.in_text(heap, file)?)))?;
+    Ok(told(heap, file.name, record.len(), &accepted)?)
 }
 
 /// Prints the type of the rule whose record is in a file.
-pub(crate) fn check_record(rt: &HostRuntime, heap: Global, file: &str) -> Result<String, Failure> {
-    let found = fetch(rt, heap, file)?;
+pub(crate) fn check_record(rt: &HostRuntime, file: &str) -> Result<String, Failure> {
+    let heap = rt.alloc();
+    let found = fetch(rt, file)?;
     let record = found.bytes.as_slice();
-    match verdict_on(heap, record)? {
-        Ok(accepted) => Ok(told(heap, found.from.name, record.len(), &accepted)?),
-        Err(refused) => Err(Failure::told(heap, &refused.in_file(heap, found.from)?)),
-    }
+    let accepted = verdict_on(heap, record)?
+        .try_map_err(|refused| Ok(Failure::told(heap, &refused.in_file(heap, found.from)?)))?;
+    Ok(told(heap, found.from.name, record.len(), &accepted)?)
 }
 
 /// The type, then the figures.

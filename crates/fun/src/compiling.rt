@@ -18,12 +18,8 @@ pub(crate) struct Fetched {
 }
 
 impl Fetched {
-    pub(crate) fn from(
-        rt: &HostRuntime,
-        heap: Global,
-        origin: &Origin,
-    ) -> Result<Fetched, Failure> {
-        let book = book_of(heap, origin.names.as_slice())?;
+    pub(crate) fn from(rt: &HostRuntime, origin: &Origin) -> Result<Fetched, Failure> {
+        let book = book_of(rt.alloc(), origin.names.as_slice())?;
         let text = source::read(rt, origin.file, RULE)?;
         Ok(Fetched { book, text })
     }
@@ -38,53 +34,42 @@ impl Fetched {
 }
 
 /// Compiles a text, and prints its record or writes it to a file.
-pub(crate) fn compile(
-    rt: &HostRuntime,
-    heap: Global,
-    request: &Request,
-) -> Result<String, Failure> {
-    let fetched = Fetched::from(rt, heap, &request.origin)?;
-    let record = record_of(heap, fetched.rule(&request.origin))?;
-    written(rt, heap, request.out, record.as_slice())
+pub(crate) fn compile(rt: &HostRuntime, request: &Request) -> Result<String, Failure> {
+    let fetched = Fetched::from(rt, &request.origin)?;
+    let record = record_of(rt.alloc(), fetched.rule(&request.origin))?;
+    written(rt, request.out, record.as_slice())
 }
 
 /// The record of a text, or what is wrong with the text.
 pub(crate) fn record_of(heap: Global, rule: RuleText) -> Result<Vec<u8>, Failure> {
-    match rule.record(heap, rule.origin.room)? {
-        Ok(record) => Ok(record),
-        Err(fault) => Err(Failure::told(heap, &rule.refusal(heap, fault)?)),
-    }
+    rule.record(heap, rule.origin.room)?
+        .try_map_err(|fault| Ok(Failure::told(heap, &rule.refusal(heap, fault)?)))
 }
 
 /// Puts the names into a book, in their order.
 fn book_of(heap: Global, names: &[&str]) -> Result<Book, Failure> {
     let mut book = Book::new();
     for (at, name) in names.iter().enumerate() {
-        if let Err(fault) = book.add(name.as_bytes()) {
-            return Err(Failure::told(heap, &refused(heap, fault, name, at)?));
-        }
+        book.add(name.as_bytes())
+            .try_map_err(|fault| Ok(Failure::told(heap, &refused(heap, fault, name, at)?)))?;
     }
     Ok(book)
 }
 
 /// Prints a record, or writes it to a file and says so.
-fn written(
-    rt: &HostRuntime,
-    heap: Global,
-    out: Option<&str>,
-    record: &[u8],
-) -> Result<String, Failure> {
+fn written(rt: &HostRuntime, out: Option<&str>, record: &[u8]) -> Result<String, Failure> {
+    let heap = rt.alloc();
     let bytes = record.len();
     let nodes = Walk::over(record).count();
     let Some(file) = out else {
         let shown = hexadecimal::show(heap, record)?;
         return Ok(format!(in heap; "{shown}\n{bytes} bytes, {nodes} nodes\n")?);
     };
-    match fs::write(rt, file, record) {
-        Ok(()) => Ok(format!(in heap; "{file}: {bytes} bytes, {nodes} nodes\n")?),
-        Err(error) => Err(Failure::told(
+    fs::write(rt, file, record).map_err(|error| {
+        Failure::told(
             heap,
             &format_args!("error: cannot write {file}: {error}\n"),
-        )),
-    }
+        )
+    })?;
+    Ok(format!(in heap; "{file}: {bytes} bytes, {nodes} nodes\n")?)
 }

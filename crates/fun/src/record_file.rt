@@ -3,7 +3,6 @@ use crate::failure::Failure;
 use crate::source;
 use crate::source::RECORD;
 use messages::file::{MOST_READ, shown_name};
-use std::alloc::Global;
 use verdicts::of_record::{Form, RecordFile};
 
 /// A record as it was found in a file.
@@ -15,11 +14,8 @@ pub struct Found<'a> {
 
 /// Fetches a record. A file of hexadecimal digits in pairs, blanks and line ends aside, holds it in hexadecimal; every
 /// other file holds its bytes. The two are not mistaken: the third byte of a record is 1, which is no digit and no blank.
-pub(crate) fn fetch<'a>(
-    rt: &HostRuntime,
-    heap: Global,
-    file: &'a str,
-) -> Result<Found<'a>, Failure> {
+pub(crate) fn fetch<'a>(rt: &HostRuntime, file: &'a str) -> Result<Found<'a>, Failure> {
+    let heap = rt.alloc();
     let bytes = source::read(rt, file, RECORD)?;
     let cut = bytes.len() >= MOST_READ;
     let digits: Vec<u8> = bytes

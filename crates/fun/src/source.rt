@@ -14,7 +14,7 @@ pub const RECORD: &str = "the record";
 /// The bytes of a file, or of standard input where its name is `-`.
 pub(crate) fn read(rt: &HostRuntime, file: &str, wanted: &str) -> Result<Vec<u8>, Failure> {
     let heap = rt.alloc();
-    bytes(rt, heap, file).map_err(|error| {
+    bytes(rt, file).map_err(|error| {
         let name = shown_name(file);
         Failure::told(
             heap,
@@ -25,14 +25,17 @@ pub(crate) fn read(rt: &HostRuntime, file: &str, wanted: &str) -> Result<Vec<u8>
     })
 }
 
-fn bytes(rt: &HostRuntime, heap: Global, file: &str) -> io::Result<Vec<u8>> {
-    let mut bytes = Vec::new(heap);
+fn bytes(rt: &HostRuntime, file: &str) -> io::Result<Vec<u8>> {
     if file == "-" {
-        rt.stdin().take(MOST_READ as u64).read_to_end(&mut bytes)?;
+        all_of(rt.alloc(), rt.stdin())
     } else {
-        File::open(rt, file)?
-            .take(MOST_READ as u64)
-            .read_to_end(&mut bytes)?;
+        all_of(rt.alloc(), File::open(rt, file)?)
     }
+}
+
+/// All bytes that come from somewhere, but no more than are of use.
+fn all_of<R: Read + Drop>(heap: Global, source: R) -> io::Result<Vec<u8>> {
+    let mut bytes = Vec::new(heap);
+    source.take(MOST_READ as u64).read_to_end(&mut bytes)?;
     Ok(bytes)
 }

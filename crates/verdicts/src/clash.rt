@@ -3,6 +3,7 @@
 //! Nodes are asked in their order, and each only says what its kind asks for. So what is known of the refused node is
 //! that those before it go together and that they no longer do with it. Its children come after it and have no part
 //! in that: what is told is what the node itself is, and what is asked where it stands.
+use crate::node_at::NodeAt;
 use crate::standing::{Role, Standing, standing_behind};
 use messages::reason::Reason;
 use std::alloc::{AllocError, Global};
@@ -41,30 +42,26 @@ struct Clash {
 }
 
 /// Why a node is the first at which the types do not go together, and what to write instead in a text.
-pub(crate) fn clash_at(heap: Global, nodes: &[Node], at: usize) -> Result<Reason, AllocError> {
-    let clash = Clash::at(heap, nodes, at)?;
+pub(crate) fn clash_at(heap: Global, node: NodeAt) -> Result<Reason, AllocError> {
+    let clash = Clash::at(heap, node)?;
     let why = clash.why(heap)?;
     let title = "the types no longer go together here";
     Ok(Reason::new(title, why, clash.advice()))
 }
 
 impl Clash {
-    fn at(heap: Global, nodes: &[Node], at: usize) -> Result<Clash, AllocError> {
-        let kinds: Vec<Kind> = nodes.iter().take(at).map(|node| node.kind()).collect(heap)?;
+    fn at(heap: Global, node: NodeAt) -> Result<Clash, AllocError> {
+        let kinds: Vec<Kind> = node.before().iter().map(|node| node.kind()).collect(heap)?;
         let Standing { role, around } = standing_behind(heap, kinds.as_slice(), 0)?.unwrap_or(
             Standing {
                 role: Role::Whole,
                 around: 0,
             },
         );
-        let own = match nodes.get(at).copied() {
-            Some(node) => own_of(node, around),
-            None => Own::Any,
-        };
         Ok(Clash {
-            own,
+            own: node.node().map_or(Own::Any, |node| own_of(node, around)),
             role,
-            before_a_minus: is_before_a_minus(nodes, at),
+            before_a_minus: node.is_before_a_minus(),
         })
     }
 
@@ -145,12 +142,4 @@ fn own_of(node: Node, around: usize) -> Own {
         Node::Variable(_) => Own::Opened,
         Node::Application(_, _) | Node::LetIn(_, _) | Node::IfElse(_, _, _) => Own::Any,
     }
-}
-
-/// Whether a node is applied to a number below 0. What is applied stands right behind its application.
-fn is_before_a_minus(nodes: &[Node], at: usize) -> bool {
-    let Some(Node::Application(_, argument)) = nodes.get(at.saturating_sub(1)) else {
-        return false;
-    };
-    matches!(nodes.get(*argument), Some(Node::Number(number)) if *number < 0)
 }

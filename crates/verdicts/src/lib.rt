@@ -6,6 +6,7 @@
 #![tactic(auto)]
 
 mod clash;
+mod node_at;
 pub mod of_record;
 mod of_text;
 mod questions;

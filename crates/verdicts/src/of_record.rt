@@ -3,6 +3,7 @@ ghost use Rattle.std.specs.Prelude.{◌≡◌, IfOk};
 ghost use Rattle.typing.specs.Faults.{number_of};
 
 use crate::clash::clash_at;
+use crate::node_at::NodeAt;
 use crate::questions::Given;
 use crate::verdict::{MOST_ENTRIES, Refused};
 use crate::walk::Walk;
@@ -83,7 +84,10 @@ impl Refused<'_> {
         match self.fault {
             AcceptFault::Record(fault) => given.reason(heap, fault),
             AcceptFault::NoType(node) => match receive(self.record) {
-                Ok(received) => clash_at(heap, received.nodes.as_slice(), node),
+                Ok(received) => {
+                    let nodes = received.nodes.as_slice();
+                    clash_at(heap, NodeAt { nodes, at: node })
+                }
                 Err(fault) => given.reason(heap, fault),
             },
             AcceptFault::ShortTable => Ok(Reason::new(

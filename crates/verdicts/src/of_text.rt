@@ -2,6 +2,7 @@
 ghost use Rattle.std.specs.Prelude.{◌≡◌, IfOk};
 ghost use Rattle.typing.specs.Faults.{number_of};
 
+use crate::node_at::NodeAt;
 use crate::span::span_of;
 use crate::verdict::Refused;
 use messages::file::TextFile;
@@ -20,7 +21,8 @@ impl Refused<'_> {
         let reason = self.reason(heap, false)?;
         match (self.fault, receive(self.record)) {
             (AcceptFault::NoType(node), Ok(received)) => {
-                let span = span_of(heap, file.text, received.nodes.as_slice(), node)?;
+                let nodes = received.nodes.as_slice();
+                let span = span_of(heap, file.text, NodeAt { nodes, at: node })?;
                 Message::pointing(heap, number, file, span, reason)
             }
             _ => Ok(Message::about(number, file.name.into(), reason)),

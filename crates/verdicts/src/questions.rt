@@ -6,7 +6,7 @@ use record::fault::RecordFault;
 use std::alloc::{AllocError, Global};
 use std::borrow::CowStr;
 use syntax::kind::Kind;
-use syntax::limits::MOST_NODES;
+use syntax::limits::{MOST_NODES, MOST_READINGS};
 
 /// What to do about bytes that were damaged on their way.
 const ANEW: &str = "make the record anew from its text: fun compile FILE NAME..";
@@ -68,7 +68,7 @@ impl Given<'_> {
     fn readings(&self, heap: Global) -> Result<Reason, AllocError> {
         let why = match self.bytes.get(3) {
             Some(byte) => CowStr::from(format!(in heap;
-                "byte 3 is {byte:02x}, and a rule has at most 8 readings"
+                "byte 3 is {byte:02x}, and a rule has at most {MOST_READINGS} readings"
             )?),
             None => CowStr::from("the record ends before byte 3, the count of readings"),
         };
@@ -147,7 +147,8 @@ impl Given<'_> {
 
 fn too_many_nodes(heap: Global, place: usize) -> Result<Reason, AllocError> {
     let why = format!(in heap;
-        "the node at byte {place} is the 513th, and a rule has at most {MOST_NODES}"
+        "the node at byte {place} is the {}th, and a rule has at most {MOST_NODES}",
+        MOST_NODES + 1
     )?;
     Ok(Reason::new("the rule has too many nodes", why, "make two rules of it"))
 }

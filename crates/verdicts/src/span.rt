@@ -3,23 +3,18 @@
 //! Numbers, truths, used names, `fun`, `let` and `if` stand in the text in the order of their nodes. A sum, a
 //! comparison and an application have no token at their front: they begin where their first child begins. The last
 //! node of every tree is a number, a truth or a name, so that each part ends with one.
+use crate::node_at::NodeAt;
 use grammar::Mark;
 use lexer::token::Token;
 use messages::frame::Span;
 use messages::tokens::{Piece, Tokens};
 use std::alloc::{AllocError, Global};
-use std::iter;
 use syntax::node::Node;
 
 /// The part of a text that a node comes from; all of it where the text is not that of the nodes.
-pub(crate) fn span_of(
-    heap: Global,
-    text: &[u8],
-    nodes: &[Node],
-    at: usize,
-) -> Result<Span, AllocError> {
-    let first = first_token(text, nodes, at);
-    let last = first_token(text, nodes, last_below(nodes, at));
+pub(crate) fn span_of(heap: Global, text: &[u8], node: NodeAt) -> Result<Span, AllocError> {
+    let first = first_token(text, node);
+    let last = first_token(text, node.last_below());
     match (first, last) {
         (Some(first), Some(last)) => balanced(
             heap,
@@ -37,10 +32,10 @@ pub(crate) fn span_of(
 }
 
 /// The first token of the part that a node comes from.
-fn first_token<'a>(text: &'a [u8], nodes: &[Node], at: usize) -> Option<Piece<'a>> {
-    let before = nodes
+fn first_token<'a>(text: &'a [u8], node: NodeAt) -> Option<Piece<'a>> {
+    let before = node
+        .before()
         .iter()
-        .take(at)
         .filter(|node| !begins_with_child(**node))
         .count();
     Tokens::of(text)
@@ -54,25 +49,6 @@ fn begins_with_child(node: Node) -> bool {
         node,
         Node::Application(_, _) | Node::Sum(_, _) | Node::AtMost(_, _)
     )
-}
-
-/// The last node of the tree that begins at a node.
-fn last_below(nodes: &[Node], at: usize) -> usize {
-    iter::successors(Some(at), |at| last_child(*nodes.get(*at)?))
-        .take(nodes.len())
-        .last()
-        .unwrap_or(at)
-}
-
-/// The last child of a node, where it has any.
-fn last_child(node: Node) -> Option<usize> {
-    match node {
-        Node::Number(_) | Node::Truth(_) | Node::Variable(_) => None,
-        Node::Function(last) => Some(last),
-        Node::Application(_, last) | Node::LetIn(_, last) => Some(last),
-        Node::Sum(_, last) | Node::AtMost(_, last) => Some(last),
-        Node::IfElse(_, _, last) => Some(last),
-    }
 }
 
 /// Widens a part by the parentheses that it has only one of.

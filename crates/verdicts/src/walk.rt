@@ -3,9 +3,7 @@ ghost use Rattle.std.specs.Prelude.{◌≡◌, ◌-◌, length};
 ghost use Rattle.std.specs.Iterator.{at_most};
 
 use syntax::kind::Kind;
-
-/// How many bytes stand before the first node: the length, the version and the count of readings.
-const HEAD: usize = 4;
+use syntax::limits::HEAD;
 
 /// Goes over the nodes of a record in their order, as far as its bytes announce any: the place of each and its kind.
 #[derive(Drop)]

@@ -9,7 +9,7 @@ struct Unknown(u16);
 
 impl fmt::Display for Unknown {
     fn fmt<W: fmt::Write>(&self, f: &mut fmt::Formatter<W>) -> fmt::Result {
-        let letter = (b'a' + (self.0 % 26) as u8) as char;
+        let letter = char::from_digit(10 + u32::from(self.0 % 26), 36).unwrap();
         match self.0 / 26 {
             0 => write!(f, "{letter}"),
             round => write!(f, "{letter}{round}"),
