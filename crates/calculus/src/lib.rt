@@ -11,75 +11,57 @@ ghost use Rattle.calculus.specs.Laws.{NeverStuck, TypedIsClosed, KeepsTypes, Has
 ghost use Rattle.calculus.specs.Length.{Answer};
 ghost use Rattle.calculus.specs.Figures.{Figures, Gives, thrice, leaving};
 
-/// A typed rule is never stuck.
-pub fn never_stuck() -> bool
+/// Does nothing: its contract is that a typed rule is never stuck.
+pub fn never_stuck()
     ensures { NeverStuck }
-{
-    true
-}
+{}
 
-/// In a typed rule all variables are bound.
-pub fn typed_is_closed() -> bool
+/// Does nothing: its contract is that in a typed rule all variables are bound.
+pub fn typed_is_closed()
     ensures { TypedIsClosed }
-{
-    true
-}
+{}
 
-/// Putting readings in keeps every type, and so does each reduction.
-pub fn keeps_types() -> bool
+/// Does nothing: its contract is that putting readings in keeps every type, and so does each reduction.
+pub fn keeps_types()
     ensures { KeepsTypes }
-{
-    true
-}
+{}
 
-/// A typed rule has a length, whatever is read.
-pub fn has_length() -> bool
+/// Does nothing: its contract is that a typed rule has a length, whatever is read.
+pub fn has_length()
     ensures { HasLength }
-{
-    true
-}
+{}
 
-/// A value belongs to every type of its rule.
-pub fn value_belongs() -> bool
+/// Does nothing: its contract is that a value belongs to every type of its rule.
+pub fn value_belongs()
     ensures { ValueBelongs }
-{
-    true
-}
+{}
 
-/// Stages are determined.
-pub fn determined() -> bool
+/// Does nothing: its contract is that stages are determined.
+pub fn determined()
     ensures { Determined }
-{
-    true
-}
+{}
 
-/// A rule has a type exactly when its nodes can be given types that meet all conditions.
-pub fn typed_by_conditions() -> bool
+/// Does nothing: its contract is that a rule has a type exactly when its nodes can be given types that meet all
+/// conditions.
+pub fn typed_by_conditions()
     ensures { TypedByConditions }
-{
-    true
-}
+{}
 
-/// Two rules with most general types spell these alike exactly when they have the same types.
-pub fn spelling_tells() -> bool
+/// Does nothing: its contract is that two rules with most general types spell these alike exactly when they have
+/// the same types.
+pub fn spelling_tells()
     ensures { SpellingTells }
-{
-    true
-}
+{}
 
-/// Every rule that has a type has a most general one.
-pub fn has_general_type() -> bool
+/// Does nothing: its contract is that every rule that has a type has a most general one.
+pub fn has_general_type()
     ensures { HasGeneralType }
-{
-    true
-}
+{}
 
-/// The worked figures hold.
-pub fn figures_stand() -> bool
+/// Does nothing: its contract is that the worked figures hold.
+pub fn figures_stand()
     ensures { Figures }
-{
-    true
-}
+{}
 
 /// How many steps `(fun f -> fun x -> x + f x) (fun y -> y + y) 7` takes to give 21.
 pub fn steps_of_thrice_seven() -> u32

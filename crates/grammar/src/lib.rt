@@ -10,20 +10,16 @@
 
 ghost use Rattle.grammar.specs.Laws.{OneTree, OneVerdict};
 
-/// A token list has at most one tree. Does nothing: its contract is the law.
-pub fn one_tree() -> bool
+/// Does nothing: its contract is that a token list has at most one tree.
+pub fn one_tree()
     ensures { OneTree }
-{
-    true
-}
+{}
 
-/// A text has at most one verdict, so whoever answers by the verdict answers in one way only. Does
-/// nothing: its contract is the law.
-pub fn one_verdict() -> bool
+/// Does nothing: its contract is that a text has at most one verdict, so whoever answers by the
+/// verdict answers in one way only.
+pub fn one_verdict()
     ensures { OneVerdict }
-{
-    true
-}
+{}
 
 /// A keyword or a sign: a token that is spelled in one way only.
 #[derive(Clone, Copy, Debug, PartialEq, Eq)]
