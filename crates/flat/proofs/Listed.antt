@@ -1,12 +1,13 @@
 -- The lists in slots, and what a further list does to them.
 use Rattle.std.proofs.Common.{◌≡◌, ℕ, zero, suc, ◌+◌, ◌-◌, ◌<◌, ◌≤◌, eqb, ltb, leb, ◌≢◌, ◌⊎◌, List, ◌∷◌, length, get_or, Some, None, Ok, Option, sym, refl, ap, ◌∙◌, inl, inr, ⊎_elim, add-zero, add-one, arith}
 use Rattle.std.proofs.lemmas.Bool.{ltb-true, le-leb, lt-leb, lt-ltb, ne_eqb, eq-eqb, cond-true, cond-false, cases_lt, cases_eq, cases_Bool}
-use Rattle.std.proofs.lemmas.List.{get_or_past}
+use Rattle.std.proofs.lemmas.List.{get_or_past, get_or_default}
 use Rattle.store.specs.Lists.{Extended, Looked}
 use Rattle.store.proofs.Told.{some_none, some_some, ok_err}
 use Rattle.flat.specs.declared.slot.Slot.{Slot}
 use Rattle.flat.specs.declared.slot.Slot.TheVariants.{Spare, Element, Ends}
-use Rattle.flat.specs.Spans.{element_of, reads, ending, span_of, list_at, lists_of, room_of, cost_of, Placed, Spanned}
+use Rattle.flat.specs.declared.span.Span.{Span}
+use Rattle.flat.specs.Spans.{element_of, reads, ending, span_of, list_at, lists_of, room_of, cost_of, located, Placed, Spanned}
 
 module _ {T : Type 0} where
   -- ending: only a slot that ends a list has a count, and the elements fit before it
@@ -49,6 +50,11 @@ module _ {T : Type 0} where
       (here.1, fits, long)))
       (cases_eq h 0)
 
+-- located: where a list lies says which length it has
+pub located_some : (h : ℕ) (o : Option ℕ) (s : Span) → located h o ≡ Some s → (o ≡ Some s.length) × (s.begins ≡ h - 1 - s.length)
+located_some h None s e = absurd (some_none e refl)
+located_some h (Some n) s e = let same = some_some refl e in rw (← same) (refl, refl)
+
 module _ {T : Type 0} (blank : T) where
   -- reads
   pub length_reads : (slots : List (Slot T)) (at n : ℕ) → length (reads blank slots at n) ≡ n
@@ -81,15 +87,18 @@ module _ {T : Type 0} (blank : T) where
   pub unlisted : (slots : List (Slot T)) (used h : ℕ) → span_of slots used h ≡ None → lists_of blank slots used h ≡ None
   unlisted slots used h e = ap (list_at blank slots h) e
 
-  pub spanned : (slots : List (Slot T)) (used h : ℕ) (o : Option ℕ) → o ≡ span_of slots used h → Spanned (lists_of blank slots used h) o
-  spanned slots used h None is = unlisted slots used h (sym is)
-  spanned slots used h (Some n) is = (reads blank slots (h - 1 - n) n, listed slots used h n (sym is), length_reads slots (h - 1 - n) n)
+  pub spanned : (slots : List (Slot T)) (used h : ℕ) (o : Option ℕ) → span_of slots used h ≡ o → Spanned (lists_of blank slots used h) (located h o)
+  spanned slots used h None is = unlisted slots used h is
+  spanned slots used h (Some n) is = (reads blank slots (h - 1 - n) n, listed slots used h n is, length_reads slots (h - 1 - n) n)
 
-  pub found : (slots : List (Slot T)) (used h n i : ℕ) → span_of slots used h ≡ Some n → i < n
-      → Looked (lists_of blank slots used) h i (Ok (element_of blank (get_or slots (h - 1 - n + i) Spare)))
-  found slots used h n i e less =
-      let old = listed slots used h n e in
-      let x = element_of blank (get_or slots (h - 1 - n + i) Spare) in
+  pub found : (slots : List (Slot T)) (used h i : ℕ) (s : Span) (d : Slot T) → located h (span_of slots used h) ≡ Some s → i < s.length → s.begins + i < length slots
+      → Looked (lists_of blank slots used) h i (Ok (element_of blank (get_or slots (s.begins + i) d)))
+  found slots used h i s d at less inside =
+      let n = s.length in
+      let here = located_some h (span_of slots used h) s at in
+      let old = listed slots used h n here.0 in
+      let x = element_of blank (get_or slots (s.begins + i) d) in
+      let stands : get_or slots (h - 1 - n + i) Spare ≡ get_or slots (s.begins + i) d = rw (← here.1) (get_or_default slots (s.begins + i) Spare d inside) in
       record {
         unlisted = λ none. absurd (some_none old none);
         listed = λ l is.
@@ -97,7 +106,7 @@ module _ {T : Type 0} (blank : T) where
             let long : length l ≡ n = ap length (sym same) ∙ length_reads slots (h - 1 - n) n in
             record {
               beyond = λ past. absurd (omega arith);
-              found = λ within. (x, refl, sym (getD_reads slots (h - 1 - n) n i x less) ∙ ap (λ w. get_or w i x) same);
+              found = λ within. (x, refl, sym (getD_reads slots (h - 1 - n) n i x less ∙ ap (element_of blank) stands) ∙ ap (λ w. get_or w i x) same);
             };
       }
 

@@ -4,6 +4,7 @@ use Rattle.std.specs.Prelude.{◌≡◌, ℕ, zero, suc, ◌+◌, ◌-◌, ◌<�
 use Rattle.store.specs.Lists.{Cleared, Extended}
 use Rattle.store.specs.Room.{counted}
 use Rattle.flat.specs.declared.slot.Slot.{Slot}
+use Rattle.flat.specs.declared.span.Span.{Span}
 use Rattle.flat.specs.declared.slot.Slot.TheVariants.{Spare, Element, Ends}
 
 module _ {T : Type 0} where
@@ -44,10 +45,15 @@ module _ {T : Type 0} where
   abbrev pub room_of : List (Slot T) → ℕ → ℕ
   room_of slots used = whole_of slots - used
 
+-- where the list of handle h lies, given its length
+abbrev pub located : ℕ → Option ℕ → Option Span
+located h None = None
+located h (Some n) = Some (record { begins = h - 1 - n; length = n })
+
 -- a list, told by its length
-abbrev pub Spanned : {T : Type 0} → Option (List T) → Option ℕ → Type 0
+abbrev pub Spanned : {T : Type 0} → Option (List T) → Option Span → Type 0
 Spanned list None = list ≡ None
-Spanned {T} list (Some n) = (l : List T) × (list ≡ Some l) × (length l ≡ n)
+Spanned {T} list (Some s) = (l : List T) × (list ≡ Some l) × (length l ≡ s.length)
 
 -- what a new list writes from slot `start` on: x, the n elements that stand from slot `from` on,
 -- and the slot that ends the list; nothing before it changes

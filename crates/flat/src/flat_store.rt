@@ -1,10 +1,11 @@
 //! The store over lent slots.
 ghost use Rattle.std.specs.Prelude.{◌≡◌, ℕ, ◌+◌, ◌-◌, ◌<◌, ◌≤◌, [], length, Some, Ok, slice_index_or, slice_set};
-ghost use Rattle.store.specs.Lists.{Looked};
+ghost use Rattle.std.specs.Option.{IfSome};
 ghost use Rattle.flat.specs.declared.slot.Slot.TheVariants.{Spare, Element};
-ghost use Rattle.flat.specs.Spans.{spares, element_of, span_of, lists_of, whole_of, room_of, cost_of, Placed, Spanned, New, Pushed};
+ghost use Rattle.flat.specs.Spans.{spares, element_of, span_of, lists_of, whole_of, room_of, cost_of, located, Placed, Spanned, New};
 
 use crate::slot::Slot;
+use crate::span::Span;
 use store::blank::Blank;
 use store::contract::{BareStore, Store};
 use store::fault::StoreFault;
@@ -15,6 +16,7 @@ use store::room::counted;
 pub struct FlatStore<'a, T> {
     slots: &'a mut [Slot<T>],
     used: u32,
+    ghost inside: { used ≤ whole_of slots.now },
 }
 
 /// Copies elements to slots further on.
@@ -23,7 +25,7 @@ fn copy<T: Blank + Copy>(slots: &mut [Slot<T>], from: usize, to: usize, count: u
     ensures before { (k : ℕ) → k < to → slice_index_or slots.new k Spare ≡ slice_index_or slots.old k Spare }
     ensures copied { (j : ℕ) → j < count → slice_index_or slots.new (to + j) Spare ≡ Element (element_of T.Blank.unwritten (slice_index_or slots.old (from + j) Spare)) }
 {
-    // Kept: source and target lie in one slice, and a slot without an element is copied as the blank.
+    // Kept: `copy_within` would keep a slot without an element; what a zip of `iter_mut` wrote is unknown (`returns-clause-copied` stays open).
     for j in 0..count {
         slots[to + j] = Slot::Element(slots[from + j].element());
     }
@@ -37,34 +39,22 @@ fn put<T: Copy>(slots: &mut [Slot<T>], place: usize, slot: Slot<T>)
     slots[place] = slot;
 }
 
-/// Writes a list: an element, a copy of `count` older ones, and the slot that ends it.
-fn place<T: Blank + Copy>(slots: &mut [Slot<T>], start: usize, from: usize, count: u32, element: T)
-    requires { (from + count ≤ start) × ((start + (count + 2) ≤ length slots.old) × (start + (count + 2) ≤ 65535)) }
-    ensures { Placed T.Blank.unwritten slots.old slots.new start from count element }
+/// Writes a list: an element, a copy of those of an older list, and the slot that ends it.
+fn place<T: Blank + Copy>(slots: &mut [Slot<T>], start: usize, older: Span, element: T)
+    requires inside { older.begins + older.length ≤ start }
+    requires room { (start + cost_of older.length ≤ length slots.old) × (start + cost_of older.length ≤ 65535) }
+    ensures { Placed T.Blank.unwritten slots.old slots.new start older.begins older.length element }
 {
+    let count = older.length as usize;
     put(slots, start, Slot::Element(element));
-    copy(slots, from, start + 1, count as usize);
+    copy(slots, older.begins, start + 1, count);
     put(
         slots,
-        start + 1 + count as usize,
-        Slot::Ends { length: count + 1 },
+        start + 1 + count,
+        Slot::Ends {
+            length: older.length + 1,
+        },
     );
-}
-
-/// Where the elements of a handle's list begin.
-fn first_slot(handle: u32, length: u32) -> u32
-    requires { length < 4294967295 }
-    ensures { result ≡ handle - (length + 1) }
-{
-    handle.saturating_sub(length + 1)
-}
-
-/// Where the element at an index of a handle's list stands.
-fn element_slot(handle: u32, length: u32, index: u32) -> u32
-    requires { (length < handle) × (index < length) }
-    ensures { result ≡ handle - 1 - length + index }
-{
-    handle - length - 1 + index
 }
 
 impl<'a, T: Blank + Copy> FlatStore<'a, T> {
@@ -77,51 +67,32 @@ impl<'a, T: Blank + Copy> FlatStore<'a, T> {
         FlatStore { slots, used: 0 }
     }
 
-    /// The length of a handle's list, where it has one.
-    fn span(&self, handle: u32) -> Option<u32>
-        ensures span { result ≡ span_of self.now.slots.now self.now.used handle }
+    /// Where a handle's list lies, if it has one.
+    fn span(&self, handle: u32) -> Option<Span>
+        ensures span { result ≡ located handle (span_of self.now.slots.now self.now.used handle) }
         ensures list { Spanned (lists_of T.Blank.unwritten self.now.slots.now self.now.used handle) result }
+        ensures inside { IfSome result (λ s. s.begins + s.length ≤ self.now.used) }
     {
         if handle == 0 {
-            return Some(0);
+            return Some(Span {
+                begins: 0,
+                length: 0,
+            });
         }
-        if handle > self.used || handle as usize > self.slots.len() {
+        if handle > self.used {
             return None;
         }
-        self.slots[handle as usize - 1].ending(handle)
-    }
-
-    /// The element at an index below the length of a handle's list.
-    fn element_at(&self, handle: u32, length: u32, index: u32) -> T
-        requires known { span_of self.now.slots.now self.now.used handle ≡ Some length }
-        requires within { index < length }
-        ensures { Looked (lists_of T.Blank.unwritten self.now.slots.now self.now.used) handle index (Ok result) }
-    {
-        self.slots[element_slot(handle, length, index) as usize].element()
-    }
-
-    /// Puts an element before the list of a handle, in the first slots behind the used ones.
-    fn push(&mut self, handle: u32, length: u32, element: T)
-        requires known { span_of self.old.slots.now self.old.used handle ≡ Some length }
-        requires room { cost_of length ≤ room_of self.old.slots.now self.old.used }
-        ensures pushed { Pushed T.Blank.unwritten self.old.slots.now self.new.slots.now self.old.used handle length element }
-        ensures used { self.new.used ≡ self.old.used + cost_of length }
-        ensures whole { whole_of self.new.slots.now ≡ whole_of self.old.slots.now }
-    {
-        place(
-            self.slots,
-            self.used as usize,
-            first_slot(handle, length) as usize,
+        let length = self.slots[handle as usize - 1].ending(handle)?;
+        Some(Span {
+            begins: (handle - length - 1) as usize,
             length,
-            element,
-        );
-        self.used += length + 2;
+        })
     }
 
     fn room(&self) -> u32
         ensures { result ≡ room_of self.now.slots.now self.now.used }
     {
-        counted(self.slots.len()).saturating_sub(self.used)
+        counted(self.slots.len()) - self.used
     }
 }
 
@@ -148,24 +119,22 @@ impl<'a, T: Blank + Copy> Store for FlatStore<'a, T> {
     }
 
     fn extend(&mut self, handle: u32, elem: T) -> Result<u32, StoreFault> {
-        let Some(length) = self.span(handle) else {
-            return Err(StoreFault::NoList);
-        };
-        if length as usize + 2 > self.room() as usize {
+        let span = self.span(handle).ok_or(StoreFault::NoList)?;
+        let cost = span.length + 2;
+        if cost > self.room() {
             return Err(StoreFault::NoRoom);
         }
-        self.push(handle, length, elem);
+        place(self.slots, self.used as usize, span, elem);
+        self.used += cost;
         Ok(self.used)
     }
 
     fn look(&self, handle: u32, index: u32) -> Result<T, StoreFault> {
-        let Some(length) = self.span(handle) else {
-            return Err(StoreFault::NoList);
-        };
+        let Span { begins, length } = self.span(handle).ok_or(StoreFault::NoList)?;
         if index >= length {
             return Err(StoreFault::Beyond { length });
         }
-        Ok(self.element_at(handle, length, index))
+        Ok(self.slots[begins + index as usize].element())
     }
 
     fn free(&self) -> u32 {

@@ -9,3 +9,4 @@
 
 pub mod flat_store;
 pub mod slot;
+mod span;

@@ -1,5 +1,5 @@
 //! The slots that whoever owns the memory lends.
-ghost use Rattle.std.specs.Prelude.{◌≡◌};
+ghost use Rattle.std.specs.Prelude.{◌≡◌, ℕ, ◌<◌, Some};
 ghost use Rattle.flat.specs.Spans.{element_of, ending as ending_of};
 
 use store::blank::Blank;
@@ -28,7 +28,8 @@ impl<T: Blank + Copy> Slot<T> {
 
     /// The length of the list of a handle that names this slot, if a list ends here.
     pub fn ending(self, handle: u32) -> Option<u32>
-        ensures { result ≡ ending_of handle self }
+        ensures ending { result ≡ ending_of handle self }
+        ensures fits { (n : ℕ) → result ≡ Some n → n < handle }
     {
         match self {
             Slot::Ends { length } => { if length < handle { Some(length) } else { None } }

@@ -14,6 +14,7 @@ use store::room::counted;
 pub struct LinkedStore<'a, T> {
     cells: &'a mut [Cell<T>],
     made: u32,
+    ghost inside: { made ≤ whole_of cells.now },
 }
 
 impl<'a, T: Blank + Copy> LinkedStore<'a, T> {
@@ -29,13 +30,13 @@ impl<'a, T: Blank + Copy> LinkedStore<'a, T> {
     fn has_list(&self, handle: u32) -> bool
         ensures { result ≡ nat_le handle (min self.now.made (length self.now.cells.now)) }
     {
-        handle <= self.made && handle as usize <= self.cells.len()
+        handle <= self.made
     }
 
     fn room(&self) -> u32
         ensures { result ≡ room_of self.now.cells.now self.now.made }
     {
-        counted(self.cells.len()).saturating_sub(self.made)
+        counted(self.cells.len()) - self.made
     }
 
     /// Puts an element before the list of a handle, in the first cell behind the `made` ones.

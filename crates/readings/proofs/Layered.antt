@@ -2,6 +2,7 @@
 use Rattle.std.proofs.Common.{◌≡◌, ℕ, ◌+◌, ◌-◌, ◌<◌, ◌≤◌, List, ◌∷◌, ◌++◌, length, get_or, Some, None, Ok, Err, Option, Result, sym, refl, ap, ◌∙◌, ⊎_elim, arith, length-append}
 use Rattle.std.proofs.lemmas.List.{get_or_append_left, get_or-append_right}
 use Rattle.std.proofs.lemmas.Bool.{cases_lt}
+use Rattle.std.specs.Result.{MatchResult}
 use Rattle.store.specs.declared.fault.StoreFault.{StoreFault}
 use Rattle.store.specs.declared.fault.StoreFault.TheVariants.{NoList, NoRoom, Beyond}
 use Rattle.store.specs.Lists.{Lists, Extended, Looked}
@@ -50,7 +51,7 @@ module _ (rs : List Value) where
   }
 
   -- look: an element below
-  pub looked_ok : (lists : Lists Value) (h i : ℕ) (x : Value) → Looked lists h i (Ok x) → Looked (behind rs lists) h i (Ok x)
+  looked_ok : (lists : Lists Value) (h i : ℕ) (x : Value) → Looked lists h i (Ok x) → Looked (behind rs lists) h i (Ok x)
   looked_ok lists h i x below = record {
     unlisted = λ none. below.unlisted (added_none (lists h) none);
     listed = λ m is.
@@ -78,12 +79,6 @@ module _ (rs : List Value) where
         (cases_lt i (length front.0));
   }
 
-  pub looked_no_list : (lists : Lists Value) (h i : ℕ) (e : StoreFault) → e ≡ NoList → Looked lists h i (Err e) → Looked (behind rs lists) h i (Err e)
-  looked_no_list lists h i e is = looked_err lists h i e (λ n p. let z : ◌≡◌ {A = ℕ} 0 1 = cc in omega arith)
-
-  pub looked_no_room : (lists : Lists Value) (h i : ℕ) (e : StoreFault) → e ≡ NoRoom → Looked lists h i (Err e) → Looked (behind rs lists) h i (Err e)
-  looked_no_room lists h i e is = looked_err lists h i e (λ n p. let z : ◌≡◌ {A = ℕ} 0 1 = cc in omega arith)
-
   -- look: 33 carries the length below, and it is not above the index
   pub beyond_told : (lists : Lists Value) (h i n : ℕ) (e : StoreFault) → e ≡ Beyond n → Looked lists h i (Err e) → n ≤ i
   beyond_told lists h i n e is below =
@@ -97,8 +92,8 @@ module _ (rs : List Value) where
       (cases_option (lists h))
 
   -- look: a reading, or 33 with the whole length
-  pub looked_beyond : (lists : Lists Value) (h i n : ℕ) (e : StoreFault) (r : Result Value StoreFault) → e ≡ Beyond n → Looked lists h i (Err e) → Read rs n i r → Looked (behind rs lists) h i r
-  looked_beyond lists h i n e r carries below read = record {
+  looked_beyond : (lists : Lists Value) (h i n : ℕ) (r : Result Value StoreFault) → Looked lists h i (Err (Beyond n)) → Read rs n i r → Looked (behind rs lists) h i r
+  looked_beyond lists h i n r below read = record {
     unlisted = λ none. let p = below.unlisted (added_none (lists h) none) in let z : ◌≡◌ {A = ℕ} 0 1 = cc in absurd (omega arith);
     listed = λ m is.
         let front = added_some (lists h) m is in
@@ -115,3 +110,17 @@ module _ (rs : List Value) where
               (it.0, it.1, it.2 ∙ ap (λ k. get_or rs k it.0) place ∙ sym (get_or-append_right front.0 rs (length front.0) i it.0 refl past) ∙ ap (λ w. get_or w i it.0) (sym front.2));
         };
   }
+
+  -- what becomes of a refusal below
+  pub record Onward (i : ℕ) (e : StoreFault) (r : Result Value StoreFault) : Type 0 where
+    pub no_list : e ≡ NoList → r ≡ Err NoList
+    pub no_room : e ≡ NoRoom → r ≡ Err NoRoom
+    pub beyond : (n : ℕ) → e ≡ Beyond n → Read rs n i r
+
+  -- look: an element below, or what becomes of the refusal there
+  pub looked_onward : (lists : Lists Value) (h i : ℕ) (below r : Result Value StoreFault) (Q : StoreFault → Type 0) → ((e : StoreFault) → Q e → Onward i e r)
+      → Looked lists h i below → MatchResult below (λ x. r ≡ Ok x) Q → Looked (behind rs lists) h i r
+  looked_onward lists h i (Ok x) r Q on l m = rw m (looked_ok lists h i x l)
+  looked_onward lists h i (Err NoList) r Q on l m = rw ((on NoList m).no_list refl) (looked_err lists h i NoList (λ n p. cc) l)
+  looked_onward lists h i (Err NoRoom) r Q on l m = rw ((on NoRoom m).no_room refl) (looked_err lists h i NoRoom (λ n p. cc) l)
+  looked_onward lists h i (Err (Beyond n)) r Q on l m = looked_beyond lists h i n r l ((on (Beyond n) m).beyond n refl)

@@ -19,12 +19,12 @@ fn reading(readings: &Readings, length: u32, index: u32) -> Result<Value, StoreF
     requires { length ≤ index }
     ensures { Read (values_of readings.now) length index result }
 {
-    match readings.get((index - length) as usize) {
-        Some(number) => Ok(Value::Number(number)),
-        None => Err(StoreFault::Beyond {
+    readings
+        .get((index - length) as usize)
+        .map(Value::Number)
+        .ok_or_else(|| StoreFault::Beyond {
             length: length + readings.len() as u32,
-        }),
-    }
+        })
 }
 
 impl<S: BareStore + Store<Elem = Value>> ReadingsLayer<S> {
@@ -66,12 +66,10 @@ impl<S: BareStore + Store<Elem = Value>> ReadingsLayer<S> {
     fn look_behind(&self, handle: u32, index: u32) -> Result<Value, StoreFault>
         ensures { Looked (behind (values_of self.now.readings) (S.Store.lists self.now.below)) handle index result }
     {
-        match self.below.look(handle, index) {
-            Ok(value) => Ok(value),
-            Err(StoreFault::Beyond { length }) => reading(&self.readings, length, index),
-            Err(StoreFault::NoList) => Err(StoreFault::NoList),
-            Err(StoreFault::NoRoom) => Err(StoreFault::NoRoom),
-        }
+        self.below.look(handle, index).or_else(|fault| match fault {
+            StoreFault::Beyond { length } => reading(&self.readings, length, index),
+            other => Err(other),
+        })
     }
 }
 

@@ -1,20 +1,21 @@
 //! The readings of a rule: at most eight numbers, held by value.
-ghost use Rattle.std.specs.Prelude.{◌≡◌, min, take, replicate, pos, length};
-ghost use Rattle.readings.specs.Behind.{numbers_of, Picked};
+ghost use Rattle.std.specs.Prelude.{◌≤◌};
 
 use syntax::limits::MOST_READINGS;
 
 /// Readings, the first for reading 0.
-///
-/// Kept: an array with its count is copied as a whole, as a vector of fixed capacity is not, and copies are what callers
-/// hold.
+// Kept: an array with its count is copied as a whole, as a vector of fixed capacity is not, and copies are what callers hold.
 #[derive(Clone, Copy)]
 pub struct Readings {
     numbers: [i32; MOST_READINGS],
     count: usize,
+    ghost few: { count ≤ 8 },
 }
 
 impl Readings {
+    ghost use Rattle.std.specs.Prelude.{◌≡◌, min, take, replicate, pos, length};
+    ghost use Rattle.readings.specs.Behind.{numbers_of, Picked};
+
     /// These numbers; of more than eight the first eight.
     pub fn new(numbers: &[i32]) -> Readings
         ensures { numbers_of result ≡ take 8 numbers.now }
@@ -42,7 +43,7 @@ impl Readings {
     pub(crate) fn len(&self) -> usize
         ensures { result ≡ length (numbers_of self.now) }
     {
-        self.count.min(self.numbers.len())
+        self.count
     }
 
     /// The number at a place, where there is one.

@@ -1,4 +1,4 @@
-use Rattle.std.proofs.Common.{◌≡◌, ◌-◌, arith}
+use Rattle.std.proofs.Common.{◌≡◌, ◌-◌, Some, arith}
 use Rattle.std.proofs.lemmas.Bool.Decides.{nat_tests}
 use Rattle.std.proofs.lemmas.List.{get_or_default}
 use Rattle.flat.specs.declared.slot.Slot.TheVariants.{Spare}
@@ -12,5 +12,6 @@ returns-clause-list g c =
     let handle = c.args.handle in
     let slot = c.index-self-handle.result in
     let same = get_or_default slots (handle - 1) slot Spare (omega arith) in
-    let told : c.ending.result ≡ span_of slots c.args.self.now.used handle = grind (arith, nat_tests, same, c.index-self-handle.is, c.ending.ensures) in
-    spanned g.T.Blank.unwritten slots c.args.self.now.used handle c.ending.result told
+    let told : span_of slots c.args.self.now.used handle ≡ Some c.in_ok-length.length =
+    grind (arith, nat_tests, same, c.index-self-handle.is, c.in_ok-length.ensures.ending) in
+    spanned g.T.Blank.unwritten slots c.args.self.now.used handle (Some c.in_ok-length.length) told

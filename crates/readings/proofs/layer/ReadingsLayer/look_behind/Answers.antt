@@ -1,26 +1,16 @@
-use Rattle.std.proofs.Common.{Err, subst}
-use Rattle.readings.specs.Behind.{values_of, behind}
-use Rattle.store.specs.Lists.{Looked}
-use Rattle.readings.proofs.Layered.{looked_ok, looked_no_list, looked_no_room, beyond_told, looked_beyond}
+use Rattle.std.proofs.Common.{arith, rules}
+use Rattle.std.proofs.iter.Serving.{serving}
+use Rattle.readings.specs.Behind.{values_of}
+use Rattle.readings.proofs.Layered.{beyond_told, looked_onward}
 use Rattle.readings.proofs.layer.ReadingsLayer.look_behind.Goals as goal
 
-pub reading-requires : goal.reading-requires
-reading-requires g c =
-    beyond_told (values_of c.args.self.now.readings) (g.S.Store.lists c.args.self.now.below) c.args.handle c.args.index _ _ c.in-Err-Beyond.field-0-is c.in-Err-Beyond.ensures
+pub or_else-requires : goal.or_else-requires
+or_else-requires g c =
+    let told = beyond_told (values_of c.args.self.now.readings) (g.S.Store.lists c.args.self.now.below) c.args.handle c.args.index in
+    let below = c.look.ensures in
+    grind (serving, arith, told, below)
 
-pub returns-in-Ok : goal.returns-in-Ok
-returns-in-Ok g c = looked_ok (values_of c.args.self.now.readings) _ _ _ _ c.in-Ok.ensures
-
-pub returns-in-Err-Beyond : goal.returns-in-Err-Beyond
-returns-in-Err-Beyond g c =
-    looked_beyond (values_of c.args.self.now.readings) (g.S.Store.lists c.args.self.now.below) c.args.handle c.args.index _ _ _ c.in-Err-Beyond.field-0-is c.in-Err-Beyond.ensures c.reading.ensures
-
-pub returns-in-Err-NoList : goal.returns-in-Err-NoList
-returns-in-Err-NoList g c =
-    let rs = values_of c.args.self.now.readings in
-    subst (λ e. Looked (behind rs (g.S.Store.lists c.args.self.now.below)) c.args.handle c.args.index (Err e)) c.in-Err-NoList.field-0-is (looked_no_list rs _ _ _ _ c.in-Err-NoList.field-0-is c.in-Err-NoList.ensures)
-
-pub returns-in-Err-NoRoom : goal.returns-in-Err-NoRoom
-returns-in-Err-NoRoom g c =
-    let rs = values_of c.args.self.now.readings in
-    subst (λ e. Looked (behind rs (g.S.Store.lists c.args.self.now.below)) c.args.handle c.args.index (Err e)) c.in-Err-NoRoom.field-0-is (looked_no_room rs _ _ _ _ c.in-Err-NoRoom.field-0-is c.in-Err-NoRoom.ensures)
+pub returns : goal.returns
+returns g c =
+    looked_onward (values_of c.args.self.now.readings) (g.S.Store.lists c.args.self.now.below) c.args.handle c.args.index
+    c.look.result c.or_else.result _ (λ e said. search rules) c.look.ensures c.or_else.ensures
