@@ -6,7 +6,7 @@ use book::book::Book;
 use messages::names::refused;
 use messages::rule_text::{Origin, RuleText};
 use std::io;
-use syntax::limits::MOST_RECORD;
+use syntax::limits::{MOST_NODES, MOST_RECORD, MOST_TEXT};
 
 /// Texts that break at a token.
 const TOKENS: [&[u8]; 6] = [
@@ -55,9 +55,9 @@ fn main(rt: HostRuntime) -> io::Result<()> {
 
 /// Texts that are refused as a whole.
 fn limits(rt: &HostRuntime) -> io::Result<()> {
-    text_refused(rt, &[b' '; 4097], MOST_RECORD)?;
-    text_refused(rt, &[b'1'; 4096], MOST_RECORD)?;
-    let sum = format!(in rt.alloc(); "1{}", "+1".repeat(rt.alloc(), 513)?)?;
+    text_refused(rt, &[b' '; MOST_TEXT + 1], MOST_RECORD)?;
+    text_refused(rt, &[b'1'; MOST_TEXT], MOST_RECORD)?;
+    let sum = format!(in rt.alloc(); "1{}", "+1".repeat(rt.alloc(), MOST_NODES + 1)?)?;
     text_refused(rt, sum.as_bytes(), MOST_RECORD)?;
     text_refused(rt, b"if 80 <= coil then 1 else 0", 23)
 }

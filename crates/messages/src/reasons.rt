@@ -8,7 +8,7 @@ use crate::tokens::nodes_of_sentence;
 use lexer::fault::LexFault;
 use std::alloc::{AllocError, Global};
 use std::borrow::CowStr;
-use syntax::limits::{MOST_NODES, MOST_RECORD};
+use syntax::limits::{MOST_NODES, MOST_RECORD, MOST_TEXT};
 use text::fault::CompileFault;
 
 /// What is said of a byte that nobody can have meant.
@@ -34,7 +34,7 @@ impl RuleText<'_, '_> {
     fn too_long(&self, heap: Global) -> Result<Reason, AllocError> {
         let length = self.text.len();
         let more = if length < MOST_READ { "" } else { " or more" };
-        let why = format!(in heap; "it has {length} bytes{more}, and a text may have 4096")?;
+        let why = format!(in heap; "it has {length} bytes{more}, and a text may have {MOST_TEXT}")?;
         let help = "shorten names, drop blanks, or say a repeated part once by `let`";
         Ok(Reason::new("the text is too long", why, help))
     }

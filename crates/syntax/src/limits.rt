@@ -1,10 +1,13 @@
-//! How large a rule may be, and what stands before the tree in its record.
+//! How large a rule, its text and its record may be, and what a record begins with.
 
 /// How many readings a rule may have.
 pub const MOST_READINGS: usize = 8;
 
 /// How many nodes a rule may have.
 pub const MOST_NODES: usize = 512;
+
+/// How many bytes a rule's text may have.
+pub const MOST_TEXT: usize = 4_096;
 
 /// The version that a record announces.
 pub const VERSION: u8 = 1;
@@ -13,5 +16,5 @@ pub const VERSION: u8 = 1;
 /// readings.
 pub const HEAD: usize = 4;
 
-/// As many bytes as a record can have: 4 before the tree, and 512 nodes of at most 5.
-pub const MOST_RECORD: usize = 2_564;
+/// As many bytes as a record can have: each node has at most 5.
+pub const MOST_RECORD: usize = HEAD + 5 * MOST_NODES;

@@ -1,6 +1,7 @@
 //! Records that are not accepted.
 use std::alloc::{AllocError, Global};
 use std::io;
+use syntax::limits::{HEAD, MOST_NODES};
 use typing::fault::AcceptFault;
 use verdicts::of_record::{Form, RecordFile};
 use verdicts::verdict::{Refused, verdict_on};
@@ -45,7 +46,7 @@ pub(crate) fn show_all(rt: &HostRuntime) -> io::Result<()> {
 /// A truth within more functions than a rule may have nodes.
 fn deep(heap: Global) -> Result<Vec<u8>, AllocError> {
     let mut record = vec![in heap; 2, 3, 1, 0]?;
-    record.resize(4 + 512, 5)?;
+    record.resize(HEAD + MOST_NODES, 5)?;
     record.push(2)?;
     Ok(record)
 }
