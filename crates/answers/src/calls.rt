@@ -3,7 +3,6 @@ use crate::fields::number;
 use crate::trouble::Trouble;
 use readings::value::Value;
 use std::fmt;
-use store::fault::StoreFault;
 
 /// A call of a store.
 #[derive(Clone, Copy)]
@@ -38,9 +37,9 @@ impl Call {
 
 /// The handle in `H:X`, and the text X.
 fn handle_and<'a>(text: &'a str, handles: &[u32]) -> Result<(u32, &'a str), Trouble> {
-    let Some((handle, rest)) = text.split_once(':') else {
-        return Err(Trouble::Unreadable("a handle and a colon were expected"));
-    };
+    let (handle, rest) = text
+        .split_once(':')
+        .ok_or(Trouble::Unreadable("a handle and a colon were expected"))?;
     let handle = match handle.strip_prefix('!') {
         Some(bare) => number(bare)?,
         None => handle_at(handles, number(handle)?),
@@ -65,7 +64,6 @@ pub(crate) enum Answer {
     /// The list is extended, and its handle is the so-many-th.
     Extended(usize),
     Found(Value),
-    Refused(StoreFault),
 }
 
 impl fmt::Display for Answer {
@@ -77,7 +75,6 @@ impl fmt::Display for Answer {
             Answer::Found(Value::Number(number)) => write!(f, "ok {number}"),
             Answer::Found(Value::Truth(truth)) => write!(f, "ok {truth}"),
             Answer::Found(Value::Function { node, .. }) => write!(f, "ok fun{node}"),
-            Answer::Refused(fault) => write!(f, "refused {}", fault.number()),
         }
     }
 }

@@ -16,9 +16,8 @@ pub(crate) fn answer(heap: Global, line: &str) -> Result<String, AllocError> {
         "store" => store_lines::answer(heap, fields),
         _ => Err(Trouble::Unreadable("no such kind of line")),
     };
-    match answer {
-        Ok(answer) => Ok(answer),
-        Err(Trouble::NoMemory(error)) => Err(error),
-        Err(trouble) => trouble.to_string(heap),
-    }
+    answer.or_else(|trouble| match trouble {
+        Trouble::NoMemory(error) => Err(error),
+        trouble => trouble.to_string(heap),
+    })
 }

@@ -13,6 +13,7 @@ use readings::value::Value;
 use std::alloc::{AllocError, Global};
 use store::blank::Blank;
 use store::contract::{BareStore, Store};
+use store::fault::StoreFault;
 
 /// Answers the calls of one line on a store of its own.
 pub(crate) fn answer(heap: Global, mut fields: Fields) -> Result<String, Trouble> {
@@ -66,8 +67,11 @@ fn answer_calls<S: Store<Elem = Value>>(
     let mut answers = Vec::new(heap);
     for call in calls.split(',') {
         let call = Call::read(call, handles.as_slice())?;
-        let answer = answer_call(store, &mut handles, call)?;
-        answers.push(answer.to_string(heap)?)?;
+        let told = match answer_call(store, &mut handles, call)? {
+            Ok(answer) => answer.to_string(heap)?,
+            Err(fault) => format!(in heap; "refused {}", fault.number())?,
+        };
+        answers.push(told)?;
     }
     Ok(answers.join(heap, "; ")?)
 }
@@ -77,24 +81,23 @@ fn answer_call<S: Store<Elem = Value>>(
     store: &mut S,
     handles: &mut Vec<u32>,
     call: Call,
-) -> Result<Answer, AllocError> {
+) -> Result<Result<Answer, StoreFault>, AllocError> {
     match call {
         Call::Clear => {
             store.clear();
             handles.clear();
-            Ok(Answer::Cleared)
+            Ok(Ok(Answer::Cleared))
         }
-        Call::Free => Ok(Answer::Free(store.free())),
+        Call::Free => Ok(Ok(Answer::Free(store.free()))),
         Call::Extend { handle, value } => match store.extend(handle, Value::Number(value)) {
             Ok(handle) => {
                 handles.push(handle)?;
-                Ok(Answer::Extended(handles.len()))
+                Ok(Ok(Answer::Extended(handles.len())))
             }
-            Err(fault) => Ok(Answer::Refused(fault)),
+            Err(fault) => Ok(Err(fault)),
         },
         Call::Look { handle, index } => {
-            let looked = store.look(handle, index);
-            Ok(looked.map_or_else(|fault| Answer::Refused(fault), |value| Answer::Found(value)))
+            Ok(store.look(handle, index).map(|value| Answer::Found(value)))
         }
     }
 }

@@ -35,7 +35,7 @@ pub enum Trouble {
     Refused(Refused),
 }
 
-// Kept: the faults share no trait, and a trait would want the same two lines for each of the three.
+// Kept: a trait of the faults, with its two functions and an impl for each of three, would save two bodies of two lines.
 impl From<NameFault> for Refused {
     fn from(fault: NameFault) -> Refused {
         Refused {

@@ -196,7 +196,7 @@ readings_sems : (readings : List ℤ) → Sems (map number readings) (replicate 
 readings_sems [] = tt
 readings_sems (k ∷ readings) = ((k, refl), readings_sems readings)
 
-not_both : {A : Type 0} (b : Bool) → b ≡ true → b ≡ false → A
+pub not_both : {A : Type 0} (b : Bool) → b ≡ true → b ≡ false → A
 not_both b p q = let z : ◌≡◌ {A = ℕ} 0 1 = cc in absurd (omega arith)
 
 one_length : (t : Term) (m n : ℕ) → Length t m → Length t n → m ≡ n

@@ -55,12 +55,6 @@ put_types_same θ φ h bool = refl
 put_types_same θ φ h (p ⇒ s) = let a = put_types_same θ φ h p in let b = put_types_same θ φ h s in cc
 put_types_same θ φ h (unknown k) = h k
 
-put_types_unknown : (τ : Ty) → put_types unknown τ ≡ τ
-put_types_unknown int = refl
-put_types_unknown bool = refl
-put_types_unknown (p ⇒ s) = let a = put_types_unknown p in let b = put_types_unknown s in cc
-put_types_unknown (unknown k) = refl
-
 -- one type for one unknown
 
 abbrev single : ℕ → Ty → ℕ → Ty

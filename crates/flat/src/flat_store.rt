@@ -12,6 +12,7 @@ use store::fault::StoreFault;
 use store::room::counted;
 
 /// Lists in lent slots, one behind the other in the first `used` of them.
+// Kept: the slots are lent, so that how many are used stands beside them.
 #[derive(Drop)]
 pub struct FlatStore<'a, T> {
     slots: &'a mut [Slot<T>],

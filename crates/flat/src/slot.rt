@@ -32,7 +32,7 @@ impl<T: Blank + Copy> Slot<T> {
         ensures fits { (n : ℕ) → result ≡ Some n → n < handle }
     {
         match self {
-            Slot::Ends { length } => { if length < handle { Some(length) } else { None } }
+            Slot::Ends { length } => (length < handle).then_some(length),
             Slot::Spare | Slot::Element(_) => None,
         }
     }

@@ -1,6 +1,7 @@
 //! How the program is used.
 
 /// What `fun` and `fun help` print.
+// Kept: a constant text cannot be made from numbers.
 pub const USAGE: &str = "\
 fun: compiles and checks FUN rules for heat-pump controllers
 

@@ -174,9 +174,6 @@ module _ (book : List Name) (ts : List Token) where
   pub begins_bound : (s : State) → run in_force book (start []) ts ≡ go s → BeginsBound book ts
   begins_bound s h = let r = begun_sentence in_force book ts s h in let t = fits_resolved book book r.1 r.3 in (r.0, r.1, t.0, r.2, t.1)
 
-  pub begun : BeginsBound book ts → Goes (run in_force book (start []) ts)
-  begun h = sentence_begun in_force book ts h.0 h.1 h.3 (has_fits book book h.1 (ap has h.4))
-
   -- where the automaton is stuck, no sentence goes on
   pub stuck_begins : (s : State) (t : Token) → run in_force book (start []) ts ≡ go s → step in_force book s t ≡ stuck → Begins (ts ++ t ∷ []) → ⊥
   stuck_begins s t h k b =

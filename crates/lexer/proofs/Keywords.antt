@@ -15,10 +15,6 @@ reads_suc : (b : ℕ) (w : List ℕ) (i : ℕ) (p : List ℕ) → reads (b ∷ w
 reads_suc b w i [] = refl
 reads_suc b w i (c ∷ p) = ap (λ r. eqb (get_or w i 0) c && r) (reads_suc b w (suc i) p)
 
-and_false : (x : Bool) → x && false ≡ false
-and_false true = refl
-and_false false = refl
-
 swap : (x y z : Bool) → x && (y && z) ≡ y && (x && z)
 swap true true z = refl
 swap true false z = refl

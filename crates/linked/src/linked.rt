@@ -10,6 +10,7 @@ use store::fault::StoreFault;
 use store::room::counted;
 
 /// Lists in lent cells. Handles 1 to `made` each name the cell before their own number.
+// Kept: the cells are lent, so that how many are made stands beside them.
 #[derive(Drop)]
 pub struct LinkedStore<'a, T> {
     cells: &'a mut [Cell<T>],

@@ -27,7 +27,7 @@ enum Subject<'a> {
 /// A refusal, by its number, as people read it.
 #[derive(Drop)]
 pub struct Message<'a> {
-    // Kept: each kind of fault tells its number, and a trait over them would add an impl for each and say no more.
+    // Kept: a trait over the faults, with an impl for each, would only carry this number from where `number` tells it.
     number: u8,
     subject: Subject<'a>,
     reason: Reason,

@@ -48,12 +48,10 @@ impl<'a> RuleText<'a, '_> {
         ensures { IfOk result (Told self.now.text.now (names self.now.book.now) room) }
     {
         let mut record = vec![in heap; 0u8; room]?;
-        match compile(self.text, self.book, &mut record) {
-            Ok(count) => {
-                record.truncate(count);
-                Ok(Ok(record))
-            }
-            Err(fault) => Ok(Err(fault)),
-        }
+        let compiled = compile(self.text, self.book, &mut record);
+        Ok(compiled.map(|count| {
+            record.truncate(count);
+            record
+        }))
     }
 }

@@ -19,6 +19,7 @@ use Rattle.calculus.specs.Length.{Answer, Length, answer, ends, told, value_answ
 use Rattle.calculus.specs.Length as Length
 use Rattle.calculus.proofs.Typing.{has_closed}
 use Rattle.calculus.proofs.Safety.{never_stuck}
+use Rattle.calculus.proofs.Ending.{not_both}
 use Rattle.reckoning.specs.Environments.{Value, Env, number, truth, function, base, size, answer_of, value_term}
 use Rattle.reckoning.specs.Work.{Work, done, as_stage}
 use Rattle.reckoning.specs.Moves.{Move, rests, beyond, stuck, plain, makes, move}
@@ -28,9 +29,6 @@ use Rattle.reckoning.specs.Open.{one_too_many}
 use Rattle.reckoning.specs.Laws.{stage_state, Suffices, FollowsStages, WithinWhole, Stays}
 use Rattle.reckoning.proofs.Scoped.{ScopedWork, ScopedMove, met_scoped, base_scoped, size_base, move_scoped}
 use Rattle.reckoning.proofs.Following.{as_next, follows, met_stage, env_terms_base, rests_done}
-
-not_both : {A : Type 0} (b : Bool) → b ≡ true → b ≡ false → A
-not_both b p q = let z : ◌≡◌ {A = ℕ} 0 1 = cc in absurd (omega arith)
 
 -- what a run keeps from step to step, T being stage 0 and g the steps granted
 record Kept (T : Term) (g : ℕ) (s : Reckoned) : Type 0 where

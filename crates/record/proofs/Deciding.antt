@@ -10,12 +10,9 @@ use Rattle.record.specs.Proper.{Sendable}
 use Rattle.record.specs.Questions.{front, Refused, here, later, spare, Refusal}
 use Rattle.record.proofs.Decoding.{decode, decode_encode}
 use Rattle.record.proofs.Standing.{stands_behind}
-use Rattle.record.proofs.Walking.{over}
+use Rattle.record.proofs.Walking.{over, some_none}
 
 -- ── one refusal ──
-
-both : {A : Type 0} {x : A} {o : Option A} → o ≡ some x → o ≡ none → ⊥
-both p q = let z : ◌≡◌ {A = ℕ} 0 1 = cc in omega arith
 
 same_pair : (o : Option (ℕ × ℕ)) (k k' q q' : ℕ) → o ≡ some (k, q) → o ≡ some (k', q') → (k ≡ k') × (q ≡ q')
 same_pair o k k' q q' a b =
@@ -29,15 +26,15 @@ same_pair o k k' q q' a b =
 
 same_refused : (s : List ℕ) (l : List ℕ) (n p k k' q q' : ℕ) → Refused s l n p k q → Refused s l n p k' q' → (k ≡ k') × (q ≡ q')
 same_refused s l n p k k' q q' (here a) (here b) = same_pair _ k k' q q' a b
-same_refused s l n p k k' q q' (here a) (later b r) = absurd (both a b)
-same_refused s l n p k k' q q' (later a r) (here b) = absurd (both b a)
+same_refused s l n p k k' q q' (here a) (later b r) = absurd (some_none a b)
+same_refused s l n p k k' q q' (later a r) (here b) = absurd (some_none b a)
 same_refused s l n p k k' q q' (later a r) (later b r') = same_refused s _ _ _ k k' q q' r r'
 same_refused s l n p k k' q q' (spare a) (spare b) = (refl, refl)
 
 one_refusal : (s : List ℕ) (k k' q q' : ℕ) → Refusal s k q → Refusal s k' q' → (k ≡ k') × (q ≡ q')
 one_refusal s k k' q q' (inl a) (inl b) = same_pair (front s) k k' q q' a b
-one_refusal s k k' q q' (inl a) (inr b) = absurd (both a b.0)
-one_refusal s k k' q q' (inr a) (inl b) = absurd (both b a.0)
+one_refusal s k k' q q' (inl a) (inr b) = absurd (some_none a b.0)
+one_refusal s k k' q q' (inr a) (inl b) = absurd (some_none b a.0)
 one_refusal s k k' q q' (inr a) (inr b) = same_refused s _ _ _ k k' q q' a.1 b.1
 
 -- ── the record of a tree ──
@@ -66,7 +63,7 @@ never_refused r t k q ok (inl a) =
     let n = short t in
     let few = ok.few in
     let count : (2 + length (encode t)) / 256 % 256 * 256 + (2 + length (encode t)) % 256 ≡ 2 + length (encode t) = omega arith in
-    both a (front_passes s (omega arith) (omega (arith, count)) refl ok.over)
+    some_none a (front_passes s (omega arith) (omega (arith, count)) refl ok.over)
 never_refused r t k q ok (inr a) =
     let s = record_of r t in
     let few = ok.few in

@@ -21,7 +21,7 @@ past s b n p k q more h small o r =
     let c : children (kind h) b ++ more ≡ children (get_or s p 0) b ++ more = ap (λ m. children m b ++ more) (sym is) in
     later (passes s b n p h small o) (subst (λ m. Refused s (children (get_or s p 0) b ++ more) (n + 1) m k q) w (subst (λ l. Refused s l (n + 1) (p + length (opening h)) k q) c r))
 
-some_none : {A : Type 0} {x : A} {o : Option A} → o ≡ some x → o ≡ none → ⊥
+pub some_none : {A : Type 0} {x : A} {o : Option A} → o ≡ some x → o ≡ none → ⊥
 some_none p q = let z : ◌≡◌ {A = ℕ} 0 1 = cc in omega arith
 
 -- and what is refused at or behind a node that passes is refused behind it

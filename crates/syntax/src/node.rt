@@ -6,6 +6,7 @@ ghost use Rattle.syntax.specs.Kinds.{kind_of};
 use crate::kind::Kind;
 
 /// A node, its children by their places in the table.
+// Kept: boxes would need a heap, and a controller has none.
 #[derive(Clone, Copy, Debug, PartialEq, Eq)]
 pub enum Node {
     Number(i32),

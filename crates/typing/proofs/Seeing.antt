@@ -11,12 +11,6 @@ use Rattle.typing.specs.Shapes.{shape_at}
 use Rattle.typing.specs.Classes.{InOrder, Sound, Says, Agrees}
 use Rattle.typing.specs.Finite.{size, Below, mark_at, DoneBefore, Settled, IsRight, WasSeen, unseen_one, unseen, Marked, Visited, BelowEntered, Finite, Falls}
 
-size_pos : (τ : Ty) → 1 ≤ size τ
-size_pos int = omega arith
-size_pos bool = omega arith
-size_pos (p ⇒ s) = omega arith
-size_pos (unknown k) = omega arith
-
 -- ── unseen ──
 
 unseen_above : (k x : ℕ) (v : Mark) (ms : List Mark) → k ≤ x → unseen k (set ms x v) ≡ unseen k ms

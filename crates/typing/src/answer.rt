@@ -11,7 +11,7 @@ use record::received::Received;
 /// Writes the spelling of the most general type of a tree to the front of `types`, and answers its count of entries.
 ///
 /// Once the tables are long enough, what was worked out in them is wiped away, whatever came of it.
-// Kept: that what was received is a tree stands in these contracts, since a ghost field of it would ask more of who makes one.
+// Kept: a ghost field of `Received` for its being a tree would ask more of who makes one, and one of `Unifier` leaves two of three clauses.
 pub(crate) fn answer_type(
     received: &Received,
     first: &mut [u16],

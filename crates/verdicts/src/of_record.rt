@@ -5,7 +5,7 @@ ghost use Rattle.typing.specs.Faults.{number_of};
 use crate::clash::clash_at;
 use crate::node_at::NodeAt;
 use crate::questions::Given;
-use crate::verdict::{MOST_ENTRIES, Refused};
+use crate::verdict::{MOST_ENTRIES, Refused, TABLE};
 use crate::walk::Walk;
 use messages::frame::Message;
 use messages::reason::Reason;
@@ -90,11 +90,13 @@ impl Refused<'_> {
                 }
                 Err(fault) => given.reason(heap, fault),
             },
-            AcceptFault::ShortTable => Ok(Reason::new(
-                "a work table is too short",
-                "a rule of n nodes needs two tables of 3 n + 2 entries",
-                "lend longer tables: 1538 entries are enough for every rule",
-            )),
+            AcceptFault::ShortTable => {
+                let help = format!(in heap;
+                    "lend longer tables: {TABLE} entries are enough for every rule"
+                )?;
+                let why = "a rule of n nodes needs two tables of 3 n + 2 entries";
+                Ok(Reason::new("a work table is too short", why, help))
+            }
             AcceptFault::LongType => {
                 let why = format!(in heap;
                     "there is room for {MOST_ENTRIES} ints, bools, unknowns and arrows, and it has more"
@@ -109,6 +111,7 @@ impl Refused<'_> {
 }
 
 /// What a node of a kind is called.
+// Kept: the kinds belong to a crate that has no words, and only the crate of a type may print it.
 fn named(kind: Kind) -> &'static str {
     match kind {
         Kind::Number => "a number",

@@ -6,7 +6,7 @@ use record::fault::RecordFault;
 use std::alloc::{AllocError, Global};
 use std::borrow::CowStr;
 use syntax::kind::Kind;
-use syntax::limits::{MOST_NODES, MOST_READINGS};
+use syntax::limits::{MOST_NODES, MOST_READINGS, VERSION};
 
 /// What to do about bytes that were damaged on their way.
 const ANEW: &str = "make the record anew from its text: fun compile FILE NAME..";
@@ -58,7 +58,7 @@ impl Given<'_> {
     fn version(&self, heap: Global) -> Result<Reason, AllocError> {
         let why = match self.bytes.get(2) {
             Some(byte) => CowStr::from(format!(in heap;
-                "byte 2 is {byte:02x}, and the version is 01"
+                "byte 2 is {byte:02x}, and the version is {VERSION:02x}"
             )?),
             None => CowStr::from("the record ends before byte 2, the version"),
         };
