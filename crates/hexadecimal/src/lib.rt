@@ -14,6 +14,7 @@ pub mod law;
 use std::alloc::{AllocError, Global};
 
 /// The digit of a number below 16.
+// Kept: the crate `hex` shows and reads whole texts, and the edits of this crate, which have to stand, turn a single digit.
 fn digit(half: u8) -> char
     ensures digit { half < 16 → result ≡ digit_of half }
     ensures none { 16 ≤ half → result ≡ 63 }
