@@ -14,8 +14,10 @@ pub(crate) fn check(rt: &HostRuntime, origin: &Origin) -> Result<String, Failure
     let rule = fetched.rule(origin);
     let record = record_of(heap, rule)?;
     let file = rule.file();
-    let accepted = verdict_on(heap, record.as_slice())?
-        .try_map_err(|refused| Ok(Failure::told(heap, &refused.in_text(heap, file)?)))?;
+    let accepted = verdict_on(heap, record.as_slice())?.try_map_err(|refused| Ok(Failure::told(
+        heap,
+        &refused.in_text(heap, file)?,
+    )))?;
     Ok(told(heap, file.name, record.len(), &accepted)?)
 }
 
@@ -24,8 +26,10 @@ pub(crate) fn check_record(rt: &HostRuntime, file: &str) -> Result<String, Failu
     let heap = rt.alloc();
     let found = fetch(rt, file)?;
     let record = found.bytes.as_slice();
-    let accepted = verdict_on(heap, record)?
-        .try_map_err(|refused| Ok(Failure::told(heap, &refused.in_file(heap, found.from)?)))?;
+    let accepted = verdict_on(heap, record)?.try_map_err(|refused| Ok(Failure::told(
+        heap,
+        &refused.in_file(heap, found.from)?,
+    )))?;
     Ok(told(heap, found.from.name, record.len(), &accepted)?)
 }
 

@@ -42,16 +42,20 @@ pub(crate) fn compile(rt: &HostRuntime, request: &Request) -> Result<String, Fai
 
 /// The record of a text, or what is wrong with the text.
 pub(crate) fn record_of(heap: Global, rule: RuleText) -> Result<Vec<u8>, Failure> {
-    rule.record(heap, rule.origin.room)?
-        .try_map_err(|fault| Ok(Failure::told(heap, &rule.refusal(heap, fault)?)))
+    rule.record(heap, rule.origin.room)?.try_map_err(|fault| Ok(Failure::told(
+        heap,
+        &rule.refusal(heap, fault)?,
+    )))
 }
 
 /// Puts the names into a book, in their order.
 fn book_of(heap: Global, names: &[&str]) -> Result<Book, Failure> {
     let mut book = Book::new();
     for (at, name) in names.iter().enumerate() {
-        book.add(name.as_bytes())
-            .try_map_err(|fault| Ok(Failure::told(heap, &refused(heap, fault, name, at)?)))?;
+        book.add(name.as_bytes()).try_map_err(|fault| Ok(Failure::told(
+            heap,
+            &refused(heap, fault, name, at)?,
+        )))?;
     }
     Ok(book)
 }
@@ -66,10 +70,7 @@ fn written(rt: &HostRuntime, out: Option<&str>, record: &[u8]) -> Result<String,
         return Ok(format!(in heap; "{shown}\n{bytes} bytes, {nodes} nodes\n")?);
     };
     fs::write(rt, file, record).map_err(|error| {
-        Failure::told(
-            heap,
-            &format_args!("error: cannot write {file}: {error}\n"),
-        )
+        Failure::told(heap, &format_args!("error: cannot write {file}: {error}\n"))
     })?;
     Ok(format!(in heap; "{file}: {bytes} bytes, {nodes} nodes\n")?)
 }

@@ -17,8 +17,9 @@ pub enum Failure {
 impl Failure {
     /// The failure that a message tells; that there is no memory where it cannot be kept.
     pub(crate) fn told(heap: Global, message: &impl Display) -> Failure {
-        message
-            .to_string(heap)
-            .map_or_else(|error| Failure::NoMemory(error), |message| Failure::Told(message))
+        message.to_string(heap).map_or_else(
+            |error| Failure::NoMemory(error),
+            |message| Failure::Told(message),
+        )
     }
 }

@@ -62,7 +62,10 @@ impl RuleText<'_, '_> {
 
     /// Guesses from the byte what was meant.
     fn no_token(&self, place: usize) -> Reason {
-        let (why, help) = self.text.get(place).map_or(NO_SUCH_BYTE, |byte| meant_by(*byte));
+        let (why, help) = self
+            .text
+            .get(place)
+            .map_or(NO_SUCH_BYTE, |byte| meant_by(*byte));
         Reason::new("no token begins here", why, help)
     }
 

@@ -1,5 +1,5 @@
 -- A list that was filled with one value. Assumes nothing.
-use Rattle.std.proofs.Common.{◌≡◌, ℕ, List, [], ◌∷◌, length, replicate, refl, ap, ◌∙◌, subst}
+use Rattle.std.proofs.Common.{◌≡◌, ℕ, List, [], ◌∷◌, length, replicate, refl, ap, ◌∙◌}
 use Rattle.std.specs.List.{FoldsTo}
 
 -- each element is what one call answered
