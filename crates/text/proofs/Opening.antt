@@ -1,14 +1,16 @@
 -- Looking a name up among the open ones, from the newest. Assumes nothing.
-use Rattle.std.proofs.Common.{◌≡◌, ℕ, suc, ◌+◌, Bool, true, false, cond, List, length, map, reverse, nat_lt, Some, None, sym, refl, ap, ◌∙◌, arith}
+use Rattle.std.proofs.Common.{◌≡◌, ℕ, suc, ◌+◌, Bool, true, false, cond, List, ◌++◌, length, map, reverse, nat_lt, Some, None, sym, refl, ap, ◌∙◌, subst, arith}
+use Rattle.std.proofs.Common.{Option as Index}
 use mathlib.Core.Option.{Option, some, none}
 use borrow.Author.Tests.{true-ltb, false-ltb}
 use Rattle.std.specs.List.{position, position_or_len}
+use Rattle.std.specs.Option.{MatchOption}
 use Rattle.std.proofs.lemmas.List.{length-map, length-reverse}
 use Rattle.std.proofs.lemmas.List.Recursion.{is_position_or_len}
 use Rattle.grammar.specs.Names.{same, next, distance}
 use Rattle.grammar.specs.Token.{Name}
 use Rattle.book.specs.Books.{Found}
-use Rattle.book.proofs.Finding.{distance-<}
+use Rattle.book.proofs.Finding.{later, distance_front, distance_back, distance-<}
 use Rattle.text.specs.Scopes.{open_names, Restored}
 use Rattle.text.specs.declared.scope.Scope.{Scope}
 
@@ -46,6 +48,15 @@ module _ {X : Type 0} (f : X → Name) (x : Name) where
 
 pub first_open : (a : Scope) (x : Name) → Found (open_names a) x (position (λ y. same x y.now) (reverse a.names.items))
 first_open a x = found_first (λ y. y.now) x (reverse a.names.items)
+
+-- a name that is looked up among the open ones first, and behind them
+pub behind_open : (xs ys : List Name) (x : Name) (n : ℕ) (P : Type 0) (o r : Index ℕ) → n ≡ length xs → Found xs x o → MatchOption o P (λ d. r ≡ Some d) → (P → (y : Index ℕ) × Found ys x y × MatchOption y (r ≡ None) (λ d. r ≡ Some (n + d))) → Found (xs ++ ys) x r
+behind_open xs ys x n P (Some d) r e f h late = subst (Found (xs ++ ys) x) (sym h) (distance_front xs ys x d f)
+behind_open xs ys x n P None r e f h late = let l = late h in by l.0 l.1 l.2
+  where
+    by : (y : Index ℕ) → Found ys x y → MatchOption y (r ≡ None) (λ d. r ≡ Some (n + d)) → Found (xs ++ ys) x r
+    by None g m = subst (Found (xs ++ ys) x) (sym m) (distance_back xs ys x f ∙ ap (later (length xs)) g)
+    by (Some d) g m = subst (Found (xs ++ ys) x) (sym m) (distance_back xs ys x f ∙ ap (later (length xs)) g ∙ ap (λ k. some (k + d)) (sym e))
 
 pub length_open : (a : Scope) → length (open_names a) ≡ length a.names.items
 length_open a = length-map (reverse a.names.items) (λ n. n.now) ∙ length-reverse a.names.items

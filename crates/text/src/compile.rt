@@ -10,13 +10,7 @@ use crate::scope::Scope;
 use crate::write::{Writer, two_bytes};
 use book::book::Book;
 use nodes::table::Table;
-use syntax::limits::MOST_NODES;
-
-/// The version of records.
-const VERSION: u8 = 1;
-
-/// How many bytes a text may have.
-const MOST_TEXT: usize = 4_096;
+use syntax::limits::{HEAD, MOST_NODES, MOST_TEXT, VERSION};
 
 fn is_too_long(text: &[u8]) -> bool
     ensures { result ≡ nat_lt 4096 (length text.now) }
@@ -61,12 +55,12 @@ fn record(
     if table.nodes.len() > MOST_NODES {
         return Err(CompileFault::TooManyNodes);
     }
-    let length = 4 + table.bytes;
+    let length = HEAD + table.bytes;
     if !fits(length, out.len()) {
         return Err(CompileFault::NoRoom);
     }
     let mut writer = Writer { out, at: 0 };
-    writer.put(&two_bytes(2 + table.bytes));
+    writer.put(&two_bytes(length - 2));
     writer.put(&[VERSION, readings as u8]);
     writer.tree(table.nodes.as_slice(), root);
     Ok(length)

@@ -237,16 +237,13 @@ impl<'a> Parser<'a> {
         match self.current.token {
             Token::Mark(Mark::True) => Ok(Node::Truth(true)),
             Token::Mark(Mark::False) => Ok(Node::Truth(false)),
-            Token::Number(spelled) => {
-                let number = amount(spelled).ok_or(LexFault::OutOfRange(place))?;
-                Ok(Node::Number(number))
-            }
-            Token::Name(name) => {
-                let distance = scope
-                    .distance(self.book, name)
-                    .ok_or(CompileFault::Unknown(place))?;
-                Ok(Node::variable(distance))
-            }
+            Token::Number(spelled) => amount(spelled)
+                .map(Node::Number)
+                .ok_or(CompileFault::Lex(LexFault::OutOfRange(place))),
+            Token::Name(name) => scope
+                .distance(self.book, name)
+                .map(Node::variable)
+                .ok_or(CompileFault::Unknown(place)),
             Token::Mark(_) | Token::End => Err(CompileFault::Unexpected(place)),
         }
     }

@@ -8,9 +8,10 @@ ghost use Rattle.text.specs.Scopes.{open_names};
 use arrayvec::ArrayVec;
 use book::book::Book;
 use book::name::same_bytes;
+use syntax::limits::MOST_TEXT;
 
-/// As many names as a text of 4,096 bytes can have open at once: each takes three tokens to open.
-pub(crate) const MOST_OPEN: usize = 1_366;
+/// More names than a text can have open at once: each takes three tokens to open.
+pub(crate) const MOST_OPEN: usize = MOST_TEXT / 3 + 1;
 
 /// The open names, each a part of the text, the newest last.
 #[derive(Drop)]
@@ -29,12 +30,8 @@ impl Drop for Opened<'_, '_> {
     fn drop(self)
         ensures { self.exit.0.now.names.items ≡ take self.entry.before self.entry.scope.now.names.items }
     {
-        let before = self.before;
-        self.scope.names.truncate(before);
-        let Opened {
-            scope: _,
-            before: _,
-        } = self;
+        let Opened { scope, before } = self;
+        scope.names.truncate(before);
     }
 }
 
@@ -70,10 +67,7 @@ impl<'a> Scope<'a> {
     pub(crate) fn distance(&self, book: &Book, name: &[u8]) -> Option<usize>
         ensures { Found (open_names self.now ++ names book.now) name.now result }
     {
-        if let Some(distance) = self.find(name) {
-            return Some(distance);
-        }
-        let reading = book.find(name)?;
-        Some(self.names.len() + reading)
+        let open = self.names.len();
+        self.find(name).or_else(|| book.find(name).map(|reading| open + reading))
     }
 }

@@ -1,4 +1,4 @@
-use Rattle.std.proofs.Common.{◌≡◌, ◌+◌, ◌≤◌, [], ◌∷◌, ◌++◌, length, drop, sym, ◌∙◌, subst, arith, rules}
+use Rattle.std.proofs.Common.{◌≡◌, ◌+◌, ◌-◌, ◌≤◌, [], ◌∷◌, ◌++◌, length, drop, sym, ap, ◌∙◌, subst, arith, rules}
 use borrow.Author.Tests.{true-leb}
 use Rattle.syntax.specs.Record.{encode, two_bytes, record_of}
 use Rattle.nodes.specs.Nodes.{count, Holds}
@@ -15,7 +15,8 @@ returns c =
     let n = c.args.table.now.bytes in
     let le : 0 ≤ length out = omega arith in
     let first = two_bytes (2 + n) in
-    let begun = subst (λ bs. (c.put.new.self.at ≡ 0 + length bs) × (c.put.new.self.out.now ≡ written out 0 bs)) c.two_bytes.ensures c.put.ensures.put in
+    let rest : 4 + n - 2 ≡ 2 + n = omega arith in
+    let begun = subst (λ bs. (c.put.new.self.at ≡ 0 + length bs) × (c.put.new.self.out.now ≡ written out 0 bs)) (c.two_bytes.ensures ∙ ap two_bytes rest) c.put.ensures.put in
     let head = behind out 0 c.put.new.self c.put-2.new.self first (1 ∷ c.args.readings ∷ []) le begun c.put-2.ensures.put in
     let all = behind out 0 c.put-2.new.self c.tree.new.self (first ++ 1 ∷ c.args.readings ∷ []) (encode t) le head (c.tree.ensures.wrote t (subst (λ ns. Holds ns c.args.root t) (sym c.as_slice.ensures.value) (h.holds few))) in
     let whole : c.tree.new.self.out.now ≡ record_of c.args.readings t ++ drop (4 + n) out = all.1 ∙ record_bytes c.args.readings n t out (h.wide few) in

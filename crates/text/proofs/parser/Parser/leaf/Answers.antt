@@ -1,15 +1,13 @@
-use Rattle.std.proofs.Common.{◌≡◌, true, false, ◌++◌, refl, ap, ◌∙◌, subst, arith, Some, w32, to_z, of_z, rules}
+use Rattle.std.proofs.Common.{◌≡◌, true, false, ◌++◌, refl, sym, ap, subst, rules, tests}
 use Rattle.syntax.specs.Tree.{Tree}
 use Rattle.grammar.specs.declared.Mark.TheVariants.{True, False}
-use Rattle.grammar.specs.Grammar.{boolean, literal, used}
-use Rattle.grammar.specs.Names.{variable_at}
+use Rattle.grammar.specs.Grammar.{boolean}
 use Rattle.grammar.specs.Token as plain
-use Rattle.lexer.specs.Amounts.{Amount}
-use Rattle.book.specs.Books.{names, Found}
-use Rattle.syntax.specs.declared.node.Node.TheVariants.{Number}
-use Rattle.text.specs.Parsing.{leaf}
-use Rattle.text.specs.Scopes.{open_names}
+use Rattle.book.specs.Books.{names}
 use Rattle.lexer.specs.Shown.{shown, value}
+use Rattle.text.specs.Parsing.{leaf, at, Single}
+use Rattle.text.specs.Scopes.{open_names}
+use Rattle.text.proofs.Leaves.{number_single, name_single}
 use Rattle.text.proofs.parser.Parser.leaf.Goals as goal
 
 pub returns-in-Mark-True : goal.returns-in-Mark-True
@@ -18,20 +16,14 @@ returns-in-Mark-True c = let e : shown c.args.self.now.current.token ≡ plain.m
 pub returns-in-Mark-False : goal.returns-in-Mark-False
 returns-in-Mark-False c = let e : shown c.args.self.now.current.token ≡ plain.mark False = search rules in (boolean false, Tree.truth false, ap leaf e, refl, refl)
 
-pub returns-in_ok-number-in-Number : goal.returns-in_ok-number-in-Number
-returns-in_ok-number-in-Number c =
-    let k = c.in_ok-number-in-Number.number in
-    let v = value c.in-Number.spelled.now in
-    let z : to_z w32 (of_z w32 k) ≡ k = search rules in
-    let some : c.amount.result ≡ Some k = grind arith in
-    let is = subst (Amount v) some c.amount.ensures in
-    (literal v, Tree.number v, ap (λ t. leaf (shown t)) c.in-Number.is, refl, ap Number (z ∙ is.1))
+pub returns-in-Number : goal.returns-in-Number
+returns-in-Number c =
+    let all = open_names c.args.scope.now ++ names c.args.self.now.book.now in
+    let p = at c.args.self.now in
+    subst (Single all p) (sym c.ok_or.ensures.value) (number_single all p (value c.in-Number.spelled.now) _ _ c.amount.result c.map.result _ (ap shown c.in-Number.is) c.args.self.now.in_hand.in_range c.amount.ensures c.map.ensures.cases (λ k is made. search (rules, tests)))
 
-pub returns-in_ok-distance-in-Name : goal.returns-in_ok-distance-in-Name
-returns-in_ok-distance-in-Name c =
-    let x = c.in-Name.name.now in
-    let d = c.in_ok-distance-in-Name.distance in
-    let names = open_names c.args.scope.now ++ names c.args.self.now.book.now in
-    let some : c.distance.result ≡ Some d = grind arith in
-    let found = subst (Found names x) some c.distance.ensures in
-    (used x, Tree.variable d, ap (λ t. leaf (shown t)) c.in-Name.is, ap variable_at found, c.variable.ensures)
+pub returns-in-Name : goal.returns-in-Name
+returns-in-Name c =
+    let all = open_names c.args.scope.now ++ names c.args.self.now.book.now in
+    let p = at c.args.self.now in
+    subst (Single all p) (sym c.ok_or-in-Name.ensures.value) (name_single all p c.in-Name.name.now _ _ c.distance.result c.map-in-Name.result (ap shown c.in-Name.is) c.distance.ensures c.map-in-Name.ensures.cases (λ no. no) (λ d made. search (rules, tests)))
