@@ -37,8 +37,7 @@ impl Table {
         ensures { Pushed self.old self.new node result }
     {
         let at = self.nodes.len();
-        if !self.nodes.is_full() {
-            self.nodes.push(node);
+        if self.nodes.try_push(node).is_ok() {
             self.bytes += 1 + node.kind().operands();
         }
         at

@@ -18,7 +18,7 @@ use Rattle.grammar.proofs.Classes.{Leaf, leaf_true, leaf_false, leaf_number, lea
 use Rattle.lexer.specs.Amounts.{Amount}
 use Rattle.book.specs.Books.{Found}
 use Rattle.text.specs.declared.fault.CompileFault.{CompileFault}
-use Rattle.text.specs.declared.fault.CompileFault.TheVariants.{Unknown}
+use Rattle.text.specs.Faults.{number, place}
 use Rattle.text.specs.Parsing.{leaf, Single}
 
 found_at : (o : Option ℕ) (t : Tree) → variable_at o ≡ some t → (d : ℕ) × (o ≡ some d)
@@ -65,6 +65,6 @@ module _ (names : List Name) (p : Stand) where
   number_single z P Q None m f e h a c made = absurd (cc)
   number_single z P Q (Some k) m f e h a c made = subst (λ n. Single names p (ok_or n f)) (sym (made k refl c)) (literal z, Tree.number z, ap leaf e, refl, ap Number a.1)
 
-  pub name_single : (x : Name) (P : Type 0) (Q : ℕ → Type 0) (o : Index ℕ) (m : Index Node) → p.token ≡ name x → Found names x o → MatchOption o P Q → (P → m ≡ None) → ((d : ℕ) → Q d → m ≡ Some (Variable d)) → Single names p (ok_or m (Unknown p.place))
-  name_single x P Q None m e a c absent made = subst (λ n. Single names p (ok_or n (Unknown p.place))) (sym (absent c)) (inr (refl, refl, (x, e, a)))
-  name_single x P Q (Some d) m e a c absent made = subst (λ n. Single names p (ok_or n (Unknown p.place))) (sym (made d c)) (used x, Tree.variable d, ap leaf e, ap variable_at a, refl)
+  pub name_single : (x : Name) (P : Type 0) (Q : ℕ → Type 0) (o : Index ℕ) (m : Index Node) (f : CompileFault) → p.token ≡ name x → number f ≡ 57 → place f ≡ p.place → Found names x o → MatchOption o P Q → (P → m ≡ None) → ((d : ℕ) → Q d → m ≡ Some (Variable d)) → Single names p (ok_or m f)
+  name_single x P Q None m f e n l a c absent made = subst (λ k. Single names p (ok_or k f)) (sym (absent c)) (inr (n, l, (x, e, a)))
+  name_single x P Q (Some d) m f e n l a c absent made = subst (λ k. Single names p (ok_or k f)) (sym (made d c)) (used x, Tree.variable d, ap leaf e, ap variable_at a, refl)

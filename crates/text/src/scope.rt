@@ -68,6 +68,7 @@ impl<'a> Scope<'a> {
         ensures { Found (open_names self.now ++ names book.now) name.now result }
     {
         let open = self.names.len();
-        self.find(name).or_else(|| book.find(name).map(|reading| open + reading))
+        self.find(name)
+            .or_else(|| book.find(name).map(|reading| open + reading))
     }
 }

@@ -13,7 +13,7 @@ pub(crate) fn two_bytes(number: usize) -> [u8; 2]
 }
 
 /// A buffer, and the place up to which it is written.
-// Kept: the caller lends the buffer, and what stands behind the record stays in it.
+// Kept: a writer of the rest alone would say by a `follows` what the whole buffer ends as, and of its `put` that is proved by hand only (`put_spec`).
 #[derive(Drop)]
 pub(crate) struct Writer<'a> {
     pub(crate) out: &'a mut [u8],

@@ -26,4 +26,4 @@ pub returns-in-Name : goal.returns-in-Name
 returns-in-Name c =
     let all = open_names c.args.scope.now ++ names c.args.self.now.book.now in
     let p = at c.args.self.now in
-    subst (Single all p) (sym c.ok_or-in-Name.ensures.value) (name_single all p c.in-Name.name.now _ _ c.distance.result c.map-in-Name.result (ap shown c.in-Name.is) c.distance.ensures c.map-in-Name.ensures.cases (λ no. no) (λ d made. search (rules, tests)))
+    subst (Single all p) (sym c.ok_or-in-Name.ensures.value) (name_single all p c.in-Name.name.now _ _ c.distance.result c.map-in-Name.result _ (ap shown c.in-Name.is) refl refl c.distance.ensures c.map-in-Name.ensures.cases (λ no. no) (λ d made. search (rules, tests)))
