@@ -1,7 +1,7 @@
 -- From a tree in the table to the verdict on the text. Assumes nothing.
-use Rattle.std.proofs.Common.{◌≡◌, ℕ, ◌+◌, ◌<◌, ◌≤◌, List, [], ◌∷◌, ◌++◌, length, drop, map, reverse, Ok, Err, Result, sym, ap, ◌∙◌, subst, ⊎_elim, arith}
+use Rattle.std.proofs.Common.{◌≡◌, ℕ, ◌<◌, ◌≤◌, List, [], length, map, reverse, Ok, Err, Result, sym, ap, subst, ⊎_elim, arith}
 use Rattle.syntax.specs.Tree.{Tree, nodes}
-use Rattle.syntax.specs.Record.{encode, two_bytes, record_of}
+use Rattle.syntax.specs.Record.{record_of}
 use Rattle.grammar.specs.Token.{Name}
 use Rattle.grammar.specs.Verdict as verdict
 use Rattle.grammar.specs.Verdict.{Means, Verdict, refused}
@@ -13,7 +13,6 @@ use Rattle.text.specs.Compiling.{Compiled, Held, Recorded}
 use Rattle.text.specs.Faults.{number, place}
 use Rattle.nodes.specs.Nodes.{Grown}
 use Rattle.text.specs.Scopes.{open_names}
-use Rattle.text.specs.Writing.{written}
 
 -- a table that began empty
 pub grown_held : (t₀ table : Table) (t : Tree) (root : ℕ) → (t₀.nodes.items ≡ []) × (t₀.bytes ≡ 0) → Grown t₀ table t root → Held table t root
@@ -26,12 +25,6 @@ grown_held t₀ table t root z g = record {
 
 pub none_open : (scope : Scope) → scope.names.items ≡ [] → open_names scope ≡ []
 none_open scope e = ap (λ l. map (λ n. n.now) (reverse l)) e
-
--- the bytes that were written are the record
-pub record_bytes : (readings n : ℕ) (t : Tree) (out : List ℕ) → n ≡ length (encode t) → written out 0 ((two_bytes (2 + n) ++ 1 ∷ readings ∷ []) ++ encode t) ≡ record_of readings t ++ drop (4 + n) out
-record_bytes readings n t out e =
-    let all : 0 + length (record_of readings t) ≡ 4 + n = omega (arith, e) in
-    ap (λ m. written out 0 ((two_bytes (2 + m) ++ 1 ∷ readings ∷ []) ++ encode t)) e ∙ ap (λ m. record_of readings t ++ drop m out) all
 
 -- what the record came to, as the verdict
 pub recorded_verdict : (s : List ℕ) (book : List Name) (readings : ℕ) (t : Tree) (before after : List ℕ) (r : Result ℕ CompileFault) → readings ≡ length book → Means book s t → Recorded readings t before after r → Compiled s book before after r

@@ -35,12 +35,9 @@ module _ (out : List ℕ) (from : ℕ) where
 pub later : (w w' : Writer) (bs : List ℕ) (n : ℕ) → Put w w' bs → w.at + (length bs + n) ≤ length w.out.now → w'.at + n ≤ length w'.out.now
 later w w' bs n p h = omega (arith, p.0, ap length p.1 ∙ length_written w.out.now w.at bs (omega arith))
 
-pub behind : (out : List ℕ) (from : ℕ) (w₁ w₂ : Writer) (bs cs : List ℕ) → from ≤ length out → (w₁.at ≡ from + length bs) × (w₁.out.now ≡ written out from bs) → Put w₁ w₂ cs → (w₂.at ≡ from + length (bs ++ cs)) × (w₂.out.now ≡ written out from (bs ++ cs))
-behind out from w₁ w₂ bs cs le p q =
-    (omega (arith, p.0, q.0, length-append bs cs), q.1 ∙ ap (λ o. written o w₁.at cs) p.1 ∙ written-++ out from bs cs w₁.at p.0 le)
-
 put_put : (w w₁ w₂ : Writer) (bs cs : List ℕ) → w.at ≤ length w.out.now → Put w w₁ bs → Put w₁ w₂ cs → Put w w₂ (bs ++ cs)
-put_put w w₁ w₂ bs cs le p q = behind w.out.now w.at w₁ w₂ bs cs le p q
+put_put w w₁ w₂ bs cs le p q =
+    (omega (arith, p.0, q.0, length-append bs cs), q.1 ∙ ap (λ o. written o w₁.at cs) p.1 ∙ written-++ w.out.now w.at bs cs w₁.at p.0 le)
 
 -- ── nodes ──
 
