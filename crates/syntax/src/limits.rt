@@ -1,8 +1,5 @@
 //! How large a rule, its text and its record may be, and what a record begins with.
 
-/// How many bytes a text may have.
-pub const MOST_TEXT: usize = 4_096;
-
 /// How many readings a rule may have.
 pub const MOST_READINGS: usize = 8;
 
