@@ -1,7 +1,7 @@
 //! Lines of the kind `compile`: `NAMES OUT TEXT`, where the names of the readings are joined by
 //! commas, each in hexadecimal, OUT is the size of the output buffer, and the text is in
 //! hexadecimal. `-` stands for no names and for an empty text.
-use crate::fields::{Fields, bytes, number};
+use crate::fields::{Fields, bytes, given, number};
 use crate::trouble::Trouble;
 use book::book::Book;
 use std::alloc::Global;
@@ -22,9 +22,9 @@ pub(crate) fn answer(heap: Global, mut fields: Fields) -> Result<String, Trouble
 /// A book of the names.
 fn book_of(heap: Global, names: &str) -> Result<Book, Trouble> {
     let mut book = Book::new();
-    if names == "-" {
+    let Some(names) = given(names) else {
         return Ok(book);
-    }
+    };
     for (order, name) in names.split(',').enumerate() {
         let name = bytes(heap, name)?;
         book.add(name.as_slice()).map_err(|fault| Trouble::Name {

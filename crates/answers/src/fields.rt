@@ -55,11 +55,16 @@ where
         .map_err(|_| Trouble::Unreadable(T::WANTED))
 }
 
-/// The bytes that are written in hexadecimal; `-` stands for none.
+/// What a field has, unless it is `-`, which stands for nothing.
+pub(crate) fn given<'a>(field: &'a str) -> Option<&'a str> {
+    (field != "-").then_some(field)
+}
+
+/// The bytes that are written in hexadecimal.
 pub(crate) fn bytes(heap: Global, digits: &str) -> Result<Vec<u8>, Trouble> {
-    if digits == "-" {
+    let Some(digits) = given(digits) else {
         return Ok(Vec::new(heap));
-    }
+    };
     hexadecimal::read(heap, digits.as_bytes())?.ok_or(Trouble::Unreadable(
         "bytes in hexadecimal were expected",
     ))

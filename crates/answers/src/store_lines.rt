@@ -1,7 +1,7 @@
 //! Lines of the kind `store`: `STORE SIZE LAYER CALLS`, where LAYER is `-` or the readings of a
 //! layer above the store, and the calls are `c`, `eH:V`, `lH:I` and `f`.
 use crate::calls::{Answer, Call};
-use crate::fields::{Fields, number};
+use crate::fields::{Fields, given, number};
 use crate::trouble::Trouble;
 use flat::flat_store::FlatStore;
 use flat::slot::Slot;
@@ -41,9 +41,9 @@ fn on_store<S: BareStore + Store<Elem = Value> + Drop>(
     layer: &str,
     calls: &str,
 ) -> Result<String, Trouble> {
-    if layer == "-" {
+    let Some(layer) = given(layer) else {
         return answer_calls(heap, &mut store, calls);
-    }
+    };
     let numbers: Vec<i32> = layer
         .split(':')
         .map(|reading| number(reading))
@@ -60,9 +60,9 @@ fn answer_calls<S: Store<Elem = Value>>(
     store: &mut S,
     calls: &str,
 ) -> Result<String, Trouble> {
-    if calls == "-" {
+    let Some(calls) = given(calls) else {
         return Ok(String::new(heap));
-    }
+    };
     let mut handles = Vec::new(heap);
     let mut answers = Vec::new(heap);
     for call in calls.split(',') {

@@ -1,6 +1,7 @@
 //! What the words of a call ask for.
 use crate::failure::Failure;
 use crate::usage::SEE_HELP;
+use messages::file::STANDARD_INPUT;
 use messages::rule_text::Origin;
 use std::alloc::{AllocFailed, Global};
 use std::fmt::Display;
@@ -38,7 +39,7 @@ impl<'a> From<&'a str> for Word<'a> {
     fn from(word: &'a str) -> Word<'a> {
         match word {
             "--help" | "-h" => Word::Help,
-            "-" => Word::Plain(word),
+            STANDARD_INPUT => Word::Plain(word),
             _ if word.starts_with('-') => Word::Option(word),
             _ => Word::Plain(word),
         }

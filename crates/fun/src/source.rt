@@ -1,6 +1,6 @@
 //! Fetching a file.
 use crate::failure::Failure;
-use messages::file::{MOST_READ, shown_name};
+use messages::file::{MOST_READ, STANDARD_INPUT, shown_name};
 use std::alloc::Global;
 use std::fs::File;
 use std::io;
@@ -26,7 +26,7 @@ pub(crate) fn read(rt: &HostRuntime, file: &str, wanted: &str) -> Result<Vec<u8>
 }
 
 fn bytes(rt: &HostRuntime, file: &str) -> io::Result<Vec<u8>> {
-    if file == "-" {
+    if file == STANDARD_INPUT {
         all_of(rt.alloc(), rt.stdin())
     } else {
         all_of(rt.alloc(), File::open(rt, file)?)
