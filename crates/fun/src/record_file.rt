@@ -21,6 +21,7 @@ pub(crate) fn fetch<'a>(rt: &HostRuntime, file: &'a str) -> Result<Found<'a>, Fa
     let digits: Vec<u8> = bytes
         .iter()
         .copied()
+        // Kept: blanks in a file of digits, which need not be those of rule texts.
         .filter(|byte| !matches!(byte, b' ' | b'\t' | b'\n' | b'\r'))
         .collect(heap)?;
     let (form, bytes) = match hexadecimal::read(heap, digits.as_slice())? {

@@ -24,6 +24,7 @@ fn digit(half: u8) -> char
 }
 
 /// Two digits for each byte.
+// Kept: it is public, and its callers keep the text.
 pub fn show(heap: Global, bytes: &[u8]) -> Result<String, AllocError>
     ensures { IfOk result (λ text. string_bytes text ≡ shown bytes.now) }
 {
@@ -40,7 +41,7 @@ fn half(digit: u8) -> Option<u32>
     ensures number { result ≡ number_of digit }
     ensures small { IfSome result (λ half. half < 16) }
 {
-    (digit as char).to_digit(16)
+    char::from(digit).to_digit(16)
 }
 
 /// The byte that two digits stand for.

@@ -9,6 +9,7 @@ use std::borrow::CowStr;
 use std::fmt;
 
 /// The bytes that a message points at, by the places of the first and of the byte behind the last.
+// Kept: a `Range` is not Copy, and a part is copied wherever it is looked at.
 #[derive(Clone, Copy)]
 pub struct Span {
     pub place: usize,

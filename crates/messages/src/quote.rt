@@ -15,7 +15,7 @@ pub(crate) enum Cell {
 impl From<u8> for Cell {
     fn from(byte: u8) -> Cell {
         if byte.is_ascii() {
-            Cell::Char(byte as char)
+            Cell::Char(char::from(byte))
         } else {
             Cell::Byte(byte)
         }

@@ -1,16 +1,15 @@
-use Rattle.std.proofs.Common.{◌∙◌, ◌≡◌, ◌+◌, ◌<◌, length, get_or, sym, subst, arith, ◌*◌}
+use Rattle.std.proofs.Common.{rules, ⊎_elim, ◌∙◌, ◌≡◌, ◌+◌, ◌<◌, length, get_or, sym, subst, arith, ◌*◌}
 use Rattle.calculus.specs.Types.{◌⇒◌}
 use Rattle.typing.specs.Asked.{NodeFits}
 use Rattle.typing.specs.Unified.{Tried}
-use Rattle.typing.proofs.Adding.{tried_int, tried_bool, tried_sum, tried_compare, tried_choice, tried_binder, tried_reading, binder_below, look_ok, look_err, node_tried, same_list}
+use Rattle.typing.proofs.Adding.{tried_int, tried_bool, tried_sum, tried_compare, tried_choice, tried_binder, tried_reading, binder_below, picked, node_tried, same_list}
 use Rattle.typing.proofs.unifier.Unifier.own_conditions.Goals as goal
 
-pub unify-requires-in-Ok : goal.unify-requires-in-Ok
-unify-requires-in-Ok g c =
+pub unify-requires-in-Variable : goal.unify-requires-in-Variable
+unify-requires-in-Variable g c =
     let env = c.requires.1 in
-    let there = look_ok env.0 _ _ (c.in-Ok.ensures.listed env.0 env.1) in
-    let below = binder_below _ env.0 _ _ env.2 there.0 there.1 in
-    (omega (arith, below, c.from.ensures), omega (arith, c.requires.0))
+    let found = picked env.0 _ _ _ _ c.look-looked.result (c.look-looked.ensures.listed env.0 env.1) c.map_or.ensures (λ q given. search rules) in
+    (⊎_elim (λ b. binder_below _ env.0 _ _ env.2 b.0 b.1) (λ r. omega (arith, r.1, c.int-int.ensures)) found, omega (arith, c.requires.0))
 
 pub returns-in-Number : goal.returns-in-Number
 returns-in-Number g c = λ ps e. (c.unify.ensures.0, node_tried _ _ _ _ _ _ _ ps _ _ _ c.unify.result (sym c.node.ensures ∙ c.in-Number.is) (tried_int _ _ _ _ _ _ _ c.int-int.ensures c.truth-truth.ensures _ c.unify.result c.unify.ensures.1))
@@ -19,26 +18,19 @@ pub returns-in-Truth : goal.returns-in-Truth
 returns-in-Truth g c =
     λ ps e. (c.unify-in-Truth.ensures.0, node_tried _ _ _ _ _ _ _ ps _ _ _ c.unify-in-Truth.result (sym c.node.ensures ∙ c.in-Truth.is) (tried_bool _ _ _ _ _ _ _ c.int-int.ensures c.truth-truth.ensures _ c.unify-in-Truth.result c.unify-in-Truth.ensures.1))
 
-pub returns-in-Ok : goal.returns-in-Ok
-returns-in-Ok g c =
-    λ ps e.
-    let there = look_ok ps _ _ (c.in-Ok.ensures.listed ps e) in (
-      c.unify-in-Ok.ensures.0,
-      node_tried _ _ _ _ _ _ _ ps _ _ _ c.unify-in-Ok.result (sym c.node.ensures ∙ c.in-Variable.is)
-          (tried_binder _ _ _ _ _ _ ps _ _ _ c.unify-in-Ok.result there.0 (subst (λ x. x ≡ get_or ps c.in-Variable.distance x) (sym c.from.ensures) there.1) c.unify-in-Ok.ensures.1),
-    )
-
-pub returns-in-Err : goal.returns-in-Err
-returns-in-Err g c =
+pub returns-in-Variable : goal.returns-in-Variable
+returns-in-Variable g c =
     λ ps e.
     let env = c.requires.1 in
     let count = length c.args.self.now.tree.now.nodes.items in
     let readings = c.args.self.now.tree.now.readings in
-    let beyond = look_err ps _ _ (c.in-Err.ensures.listed ps e) in
-    let fits : c.in-Variable.distance < length env.0 + readings = subst (NodeFits count (length env.0 + readings)) (sym c.node.ensures ∙ c.in-Variable.is) env.3 in (
-      c.unify-in-Err.ensures.0,
-      node_tried _ _ _ _ _ _ _ ps _ _ _ c.unify-in-Err.result (sym c.node.ensures ∙ c.in-Variable.is)
-          (tried_reading _ _ _ _ _ _ c.int-int.ensures _ ps _ _ c.unify-in-Err.result beyond (subst (λ l. c.in-Variable.distance < length l + readings) (sym (same_list _ env.0 ps env.1 e)) fits) c.unify-in-Err.ensures.1),
+    let fits : c.in-Variable.distance < length env.0 + readings = subst (NodeFits count (length env.0 + readings)) (sym c.node.ensures ∙ c.in-Variable.is) env.3 in
+    let within = subst (λ l. c.in-Variable.distance < length l + readings) (sym (same_list _ env.0 ps env.1 e)) fits in
+    let found = picked ps _ _ _ _ c.look-looked.result (c.look-looked.ensures.listed ps e) c.map_or.ensures (λ q given. search rules) in (
+      c.unify-in-Variable.ensures.0,
+      node_tried _ _ _ _ _ _ _ ps _ _ _ c.unify-in-Variable.result (sym c.node.ensures ∙ c.in-Variable.is) (⊎_elim
+          (λ b. tried_binder _ _ _ _ _ _ ps _ _ _ c.unify-in-Variable.result b.0 b.1 c.unify-in-Variable.ensures.1)
+          (λ r. tried_reading _ _ _ _ _ _ (r.1 ∙ c.int-int.ensures) _ ps _ _ c.unify-in-Variable.result r.0 within c.unify-in-Variable.ensures.1) found),
     )
 
 pub returns-in-Function : goal.returns-in-Function
