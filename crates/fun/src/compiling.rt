@@ -1,6 +1,5 @@
 //! The command `compile`, from the file to the record.
 use crate::arguments::Request;
-use crate::counted::Counted;
 use crate::failure::Failure;
 use crate::source;
 use crate::source::RULE;
@@ -64,14 +63,14 @@ fn book_of(heap: Global, names: &[&str]) -> Result<Book, Failure> {
 /// Prints a record, or writes it to a file and says so.
 fn written(rt: &HostRuntime, out: Option<&str>, record: &[u8]) -> Result<String, Failure> {
     let heap = rt.alloc();
-    let bytes = Counted(record.len(), "byte");
-    let nodes = Counted(Walk::over(record).count(), "node");
+    let bytes = record.len();
+    let nodes = Walk::over(record).count();
     let Some(file) = out else {
         let shown = hexadecimal::show(heap, record)?;
-        return Ok(format!(in heap; "{shown}\n{bytes}, {nodes}\n")?);
+        return Ok(format!(in heap; "{shown}\n{bytes} bytes, {nodes} nodes\n")?);
     };
     fs::write(rt, file, record).map_err(|error| {
         Failure::told(heap, &format_args!("error: cannot write {file}: {error}\n"))
     })?;
-    Ok(format!(in heap; "{file}: {bytes}, {nodes}\n")?)
+    Ok(format!(in heap; "{file}: {bytes} bytes, {nodes} nodes\n")?)
 }

@@ -10,7 +10,6 @@ mod arguments;
 mod checking;
 mod command;
 mod compiling;
-mod counted;
 mod explain;
 mod failure;
 mod record_file;
