@@ -1,7 +1,7 @@
 //! The calls of a store and their answers, as lines have them.
 use crate::fields::number;
 use crate::trouble::Trouble;
-use readings::value::Value;
+use values::Value;
 use std::fmt;
 
 /// A call of a store.

@@ -9,7 +9,7 @@ use linked::cell::Cell;
 use linked::linked::LinkedStore;
 use readings::layer::ReadingsLayer;
 use readings::readings_list::Readings;
-use readings::value::Value;
+use values::Value;
 use std::alloc::{AllocError, Global};
 use store::blank::Blank;
 use store::contract::{BareStore, Store};

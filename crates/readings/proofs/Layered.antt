@@ -7,7 +7,7 @@ use Rattle.store.specs.declared.fault.StoreFault.{StoreFault}
 use Rattle.store.specs.declared.fault.StoreFault.TheVariants.{NoList, NoRoom, Beyond}
 use Rattle.store.specs.Lists.{Lists, Extended, Looked}
 use Rattle.store.proofs.Told.{some_none, some_some, ok_err, cases_option}
-use Rattle.readings.specs.declared.value.Value.{Value}
+use Rattle.values.specs.declared.Value.{Value}
 use Rattle.readings.specs.Behind.{added, behind, cost_below, Read}
 
 module _ (rs : List Value) where

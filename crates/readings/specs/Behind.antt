@@ -3,8 +3,8 @@ use Rattle.std.specs.Prelude.{◌≡◌, ℕ, ◌+◌, ◌-◌, ◌<◌, ◌≤�
 use Rattle.store.specs.Lists.{Lists}
 use Rattle.store.specs.declared.fault.StoreFault.{StoreFault}
 use Rattle.store.specs.declared.fault.StoreFault.TheVariants.{Beyond}
-use Rattle.readings.specs.declared.value.Value.{Value}
-use Rattle.readings.specs.declared.value.Value.TheVariants.{Number}
+use Rattle.values.specs.declared.Value.{Value}
+use Rattle.values.specs.declared.Value.TheVariants.{Number}
 use Rattle.readings.specs.declared.readings_list.Readings.{Readings}
 
 -- the readings, reading 0 first

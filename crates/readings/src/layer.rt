@@ -4,7 +4,7 @@ ghost use Rattle.store.specs.Lists.{Extended, Looked};
 ghost use Rattle.readings.specs.Behind.{values_of, behind, cost_below, Read};
 
 use crate::readings_list::Readings;
-use crate::value::Value;
+use values::Value;
 use store::contract::{BareStore, Store};
 use store::fault::StoreFault;
 

@@ -10,4 +10,3 @@
 
 pub mod layer;
 pub mod readings_list;
-pub mod value;

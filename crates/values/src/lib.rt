@@ -1,6 +1,11 @@
-//! What a rule is worked out to.
+//! Run values: what a rule, and each part of it, is worked out to.
+//!
+//! In comes nothing, out goes one small type that stores keep, machines work with and reports tell. It stands alone, so
+//! that stores, the layer of readings and the machine can change apart.
+#![tactic(auto)]
+
 ghost use Rattle.std.specs.Prelude.{pos};
-ghost use Rattle.readings.specs.declared.value.Value.TheVariants.{Number};
+ghost use Rattle.values.specs.declared.Value.TheVariants.{Number};
 
 use store::blank::Blank;
 

@@ -1,0 +1,183 @@
+-- One granted step, on plain lists and in the store. Assumes nothing.
+use Rattle.std.proofs.Common.{◌≡◌, ◌≢◌, ℕ, zero, suc, ◌+◌, ◌-◌, ◌<◌, ◌≤◌, inl, inr, Bool, true, false, List, [], ◌∷◌, Some, refl, sym, ap, ◌∙◌, subst, arith}
+use Rattle.std.proofs.Math.Option.{Option, none, some}
+use Rattle.syntax.specs.declared.node.Node.{Node}
+use Rattle.store.specs.Lists.{Lists, Same}
+use Rattle.store.proofs.Told.{some_none}
+use Rattle.values.specs.declared.Value.{Value}
+use Rattle.reckoning.specs.Environments.{Env}
+use Rattle.reckoning.specs.Work.{Work}
+use Rattle.reckoning.specs.Moves.{Move, rests, beyond, stuck, plain, makes, move}
+use Rattle.reckoning.specs.Open.{one_too_many}
+use Rattle.reckoning.specs.Room.{Room, price, free}
+use Rattle.reckoning.specs.Reckoning.{Reckoned, State, waiting, over, no_store, no_stack, shortage, ahead, state, extends, reduces, if_waiting, granted, steps}
+use Rattle.machine.specs.declared.steps.Machine.{Machine}
+use Rattle.machine.specs.declared.steps.State.TheVariants as told
+use Rattle.machine.specs.declared.steps.State as told_state
+use Rattle.machine.specs.Handles.{Among, OwnLists, Root, Owned}
+use Rattle.machine.specs.Reducing.{room_of, MakesList, Moved}
+use Rattle.machine.specs.Standing.{Readied}
+use Rattle.machine.specs.Running.{state_of, Rests, StandsAt, NeverStuck}
+use Rattle.machine.proofs.Ranges.{leb_yes, leb_no}
+use Rattle.machine.proofs.Keeping.{Kept, same_kept, others_kept, list_kept}
+
+-- the lists made
+
+module _ (ns : List Node) (lists lists' : Lists Value) where
+  own_kept : Kept lists lists' → (root : ℕ) (handles : List ℕ) (made : List Env) → OwnLists ns lists root handles made → OwnLists ns lists' root handles made
+  own_kept kept root [] [] o = o
+  own_kept kept root [] (env ∷ made) o = o
+  own_kept kept root (h ∷ handles) [] o = o
+  own_kept kept root (h ∷ handles) (env ∷ made) o = (list_kept ns lists lists' kept h env o.0, o.1, o.2, own_kept kept root handles made o.3)
+
+  own_listed : (k root : ℕ) (handles : List ℕ) (made : List Env) → OwnLists ns lists root handles made → Among k handles → (l : List Value) × (lists k ≡ Some l)
+  own_listed k root [] [] o a = absurd a
+  own_listed k root [] (env ∷ made) o a = absurd a
+  own_listed k root (h ∷ handles) [] o a = absurd o
+  own_listed k root (h ∷ handles) (env ∷ made) o (inl e) = (o.0.0, ap lists e ∙ o.0.1)
+  own_listed k root (h ∷ handles) (env ∷ made) o (inr a) = own_listed k root handles made o.3 a
+
+  pub owned_same : (root : Root) (made : List Env) → Same lists lists' → Owned ns lists root made → Owned ns lists' root made
+  owned_same root made same o =
+      let kept = same_kept lists lists' same in
+      record {
+        handles = o.handles;
+        at_root = list_kept ns lists lists' kept root.handle root.environment o.at_root;
+        own = own_kept kept root.handle o.handles made o.own;
+        no_other = λ h n a. same h ∙ o.no_other h n a;
+      }
+
+  pub owned_more : (r : Room) (left left' : ℕ) (root : Root) (env : Env) (made : List Env) → MakesList ns r lists lists' left left' env → Owned ns lists root made → Owned ns lists' root (env ∷ made)
+  owned_more r left left' root env made m o =
+      let kept = others_kept lists lists' m.handle m.fresh m.others in
+      let not_root : m.handle ≢ root.handle = λ e. some_none o.at_root.1 (ap lists (sym e) ∙ m.fresh) in
+      let not_among : ¬ Among m.handle o.handles = λ a. let l = own_listed m.handle root.handle o.handles made o.own a in some_none l.1 m.fresh in
+      record {
+        handles = m.handle ∷ o.handles;
+        at_root = list_kept ns lists lists' kept root.handle root.environment o.at_root;
+        own = (m.known, not_root, not_among, own_kept kept root.handle o.handles made o.own);
+        no_other = λ h n a. m.others h (λ e. a (inl e)) ∙ o.no_other h n (λ b. a (inr b));
+      }
+
+-- one granted step
+
+shortage_waiting : (o p : Option ℕ) (st : State) → shortage o p st ≡ waiting → st ≡ waiting
+shortage_waiting (some n) p st e = let z : ◌≡◌ {A = ℕ} 0 1 = cc in absurd (omega arith)
+shortage_waiting none (some n) st e = let z : ◌≡◌ {A = ℕ} 0 1 = cc in absurd (omega arith)
+shortage_waiting none none st e = e
+
+pub granted_reduces : (r : Room) (s : Reckoned) → state s ≡ waiting → granted r s ≡ reduces r s (move s.work)
+granted_reduces r s e = ap (λ st. if_waiting st (reduces r s (move s.work)) s) e
+
+pub not_beyond : (s : Reckoned) (n : ℕ) → state s ≡ waiting → move s.work ≡ beyond n → ⊥
+not_beyond s n e f =
+    let q : over _ ≡ waiting = ap (λ m. ahead s.work m) (sym f) ∙ shortage_waiting s.refused (one_too_many s.work) (ahead s.work (move s.work)) e in
+    let z : ◌≡◌ {A = ℕ} 0 1 = cc in
+    omega arith
+
+module _ (ns : List Node) (lists lists' : Lists Value) (r : Room) (left left' : ℕ) (root : Root) where
+  -- s' is where a reduction of s to the work u leads
+  pub record Goes (s s' : Reckoned) (u : Work) : Type 0 where
+    pub work : s'.work ≡ u
+    pub count : s'.count ≡ suc s.count
+    pub refused : s'.refused ≡ none
+    pub left_free : left' ≡ free r s'.made
+    pub lists_made : Owned ns lists' root s'.made
+
+  extends_goes : (s : Reckoned) (n : ℕ) (env : Env) (w u : Work) (b : Bool) → b ≡ true → w ≡ u → left ≡ free r s.made → Owned ns lists root s.made →
+      MakesList ns r lists lists' left left' env → Goes s (extends r s n env w b) u
+  extends_goes s n env w u false b e f o m = let z : ◌≡◌ {A = ℕ} 0 1 = cc in absurd (omega arith)
+  extends_goes s n env w u true b e f o m =
+      let paid = m.paid in
+      record {
+        work = e;
+        count = refl;
+        refused = refl;
+        left_free = omega arith;
+        lists_made = owned_more ns lists lists' r left left' root env s.made m o;
+      }
+
+  pub reduces_goes : (s : Reckoned) (m : Move) (u : Work) → left ≡ free r s.made → Owned ns lists root s.made → Moved ns r lists lists' left left' m u → Goes s (reduces r s m) u
+  reduces_goes s rests u f o m = absurd m
+  reduces_goes s (beyond n) u f o m = absurd m
+  reduces_goes s stuck u f o m = absurd m
+  reduces_goes s (plain w) u f o m =
+      record { work = m.0; count = refl; refused = refl; left_free = m.2 ∙ f; lists_made = owned_same ns lists lists' root s.made m.1 o }
+  reduces_goes s (makes n env w) u f o m =
+      let paid = m.1.paid in
+      extends_goes s n env w u _ (leb_yes (price r env) (free r s.made) (omega arith)) m.0 f o m.1
+
+  -- the run that rests at the new work stands where s' is
+  pub goes_stands : (s s' : Reckoned) (u : Work) (run : Machine) → Goes s s' u → run.count ≡ suc s.count → Rests ns lists' run u → StandsAt ns lists' r left' root run s'
+  goes_stands s s' u run g c h =
+      record {
+        in_state = h.in_state ∙ ap (λ y. shortage none (one_too_many y) (ahead y (move y))) (sym g.work) ∙ ap (λ y. shortage y (one_too_many s'.work) (ahead s'.work (move s'.work))) (sym g.refused);
+        counted = c ∙ sym g.count;
+        left_free = g.left_free;
+        lists_made = g.lists_made;
+        ready = λ e. subst (λ y. Readied ns lists' run.table run.focus y) (sym g.work) (h.ready e);
+      }
+
+  -- an extension is refused
+  pub refused_stands : (s : Reckoned) (n : ℕ) (env : Env) (u : Work) (run : Machine) → state s ≡ waiting → left ≡ free r s.made → Owned ns lists root s.made →
+      move s.work ≡ makes n env u → left < price r env → Same lists lists' → left' ≡ left → run.count ≡ s.count → run.state ≡ told.NoStore n →
+      StandsAt ns lists' r left' root run (granted r s)
+  refused_stands s n env u run e f o m dear same still c st =
+      let no : _ = leb_no (price r env) (free r s.made) (omega arith) in
+      let is : granted r s ≡ record { work = s.work; count = s.count; made = s.made; refused = some n } =
+      granted_reduces r s e ∙ ap (λ y. reduces r s y) m ∙ ap (λ b. extends r s n env u b) no in
+      subst (λ y. StandsAt ns lists' r left' root run y) (sym is) (record {
+        in_state = ap state_of st;
+        counted = c;
+        left_free = still ∙ f;
+        lists_made = owned_same ns lists lists' root s.made same o;
+        ready = λ w. let z : ◌≡◌ {A = ℕ} 0 1 = cc in absurd (omega arith);
+      })
+
+-- several granted steps
+
+if_waiting_not : (st : State) (x y : Reckoned) → ¬ (st ≡ waiting) → if_waiting st x y ≡ y
+if_waiting_not waiting x y h = absurd (h refl)
+if_waiting_not (over a) x y h = refl
+if_waiting_not (no_store n) x y h = refl
+if_waiting_not (no_stack n) x y h = refl
+
+stays_for : (r : Room) (s : Reckoned) (k : ℕ) → ¬ (state s ≡ waiting) → steps r k s ≡ s
+stays_for r s zero h = refl
+stays_for r s (suc k) h = ap (λ y. granted r y) (stays_for r s k h) ∙ if_waiting_not (state s) (reduces r s (move s.work)) s h
+
+pub steps_steps : (r : Room) (s : Reckoned) (k n : ℕ) → steps r k (steps r n s) ≡ steps r (k + n) s
+steps_steps r s zero n = let e : 0 + n ≡ n = omega arith in sym (ap (λ m. steps r m s) e)
+steps_steps r s (suc k) n = let e : suc k + n ≡ suc (k + n) = omega arith in ap (λ y. granted r y) (steps_steps r s k n) ∙ sym (ap (λ m. steps r m s) e)
+
+pub stays : (r : Room) (s : Reckoned) (n m : ℕ) → n ≤ m → ¬ (state (steps r n s) ≡ waiting) → steps r m s ≡ steps r n s
+stays r s n m h not =
+    let e : m ≡ (m - n) + n = omega arith in
+    ap (λ y. steps r y s) e ∙ sym (steps_steps r s (m - n) n) ∙ stays_for r (steps r n s) (m - n) not
+
+pub never_stuck_on : (r : Room) (s : Reckoned) (n : ℕ) → NeverStuck r s → NeverStuck r (steps r n s)
+never_stuck_on r s n h k e = h (k + n) (ap (λ y. move y.work) (sym (steps_steps r s k n)) ∙ e)
+
+module _ (ns : List Node) (lists lists' : Lists Value) (r : Room) (left left' : ℕ) (root : Root) where
+  pub granted_goes : (s : Reckoned) (u : Work) → state s ≡ waiting → left ≡ free r s.made → Owned ns lists root s.made → Moved ns r lists lists' left left' (move s.work) u →
+      Goes ns lists lists' r left left' root s (granted r s) u
+  granted_goes s u e f o m = subst (λ y. Goes ns lists lists' r left left' root s y u) (sym (granted_reduces r s e)) (reduces_goes ns lists lists' r left left' root s (move s.work) u f o m)
+
+  pub never_stuck_next : (s : Reckoned) (u : Work) → Goes ns lists lists' r left left' root s (granted r s) u → NeverStuck r s → move u ≡ stuck → ⊥
+  never_stuck_next s u g h e = h 1 (ap (λ y. move y) g.work ∙ e)
+
+pub room_same : (whole whole' : ℕ) (cost cost' : ℕ → ℕ) → whole ≡ whole' → cost ≡ cost' → room_of whole cost ≡ room_of whole' cost'
+room_same whole whole' cost cost' e f = ap (λ x. room_of x cost) e ∙ ap (λ y. room_of whole' y) f
+
+waiting_told : (st : told_state.State) → state_of st ≡ waiting → st ≡ told.Waiting
+waiting_told told.Waiting e = refl
+waiting_told (told.Done x) e = let z : ◌≡◌ {A = ℕ} 0 1 = cc in absurd (omega arith)
+waiting_told (told.Range n) e = let z : ◌≡◌ {A = ℕ} 0 1 = cc in absurd (omega arith)
+waiting_told (told.NoStore n) e = let z : ◌≡◌ {A = ℕ} 0 1 = cc in absurd (omega arith)
+waiting_told (told.NoStack n) e = let z : ◌≡◌ {A = ℕ} 0 1 = cc in absurd (omega arith)
+
+-- a run that waits no more stands where it will stand after all further steps
+pub stopped : (ns : List Node) (lists : Lists Value) (r : Room) (left : ℕ) (root : Root) (run : Machine) (s : Reckoned) (n m : ℕ) → n ≤ m → (run.state ≡ told.Waiting → ⊥) →
+    StandsAt ns lists r left root run (steps r n s) → StandsAt ns lists r left root run (steps r m s)
+stopped ns lists r left root run s n m h not t =
+    subst (λ y. StandsAt ns lists r left root run y) (sym (stays r s n m h (λ e. not (waiting_told run.state (t.in_state ∙ e))))) t

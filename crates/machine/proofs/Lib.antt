@@ -1,0 +1,13 @@
+pub mod Placing
+pub mod Stacking
+pub mod Entering
+pub mod Fusing
+pub mod Settling
+pub mod Keeping
+pub mod Ranges
+pub mod Reductions
+pub mod Extending
+pub mod Telling
+pub mod Granting
+pub mod Beginning
+pub mod Fitting

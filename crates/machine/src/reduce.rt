@@ -1,0 +1,214 @@
+//! One reduction.
+ghost use Rattle.std.specs.Prelude.{◌≡◌, ◌≢◌, ◌<◌, ◌-◌, ℕ, List, Some, length};
+ghost use Rattle.values.specs.declared.Value.{Value as RunValue};
+ghost use Rattle.reckoning.specs.Work.{Work};
+ghost use Rattle.reckoning.specs.Moves.{move, stuck};
+ghost use Rattle.machine.specs.declared.operation.Operation.TheVariants.{Applied, Bound, SumLeft, CompareLeft, Condition};
+ghost use Rattle.machine.specs.Places.{Fine};
+ghost use Rattle.machine.specs.Standing.{Readied};
+ghost use Rattle.machine.specs.Reducing.{room_of, OnTop, Reduces, Extends};
+
+use crate::operation::Operation;
+use crate::seek::node as node_of;
+use crate::operations::Operations;
+use values::Value;
+use store::contract::Store;
+use syntax::node::Node;
+
+/// Where a reduction leads.
+#[derive(Clone, Copy)]
+pub enum Reduced {
+    /// To a value.
+    Found(Value),
+    /// To a body, or to the branch of an if.
+    Body { place: usize, environment: u32 },
+    /// Nowhere: the sum leaves the number range.
+    Range(usize),
+    /// Nowhere: the extension costs more than is free.
+    NoStore(usize),
+}
+
+/// Puts a value before an environment, and enters a body in it.
+fn enter_body<W: Store<Elem = Value>>(
+    store: &mut W,
+    table: &mut Operations,
+    node: usize,
+    place: usize,
+    environment: u32,
+    value: Value,
+) -> Reduced
+    requires open { 0 < table.old.depth }
+    requires known { (l : List RunValue) × (W.Store.lists store.old environment ≡ Some l) }
+    ensures extends { (l : List RunValue) → W.Store.lists store.old environment ≡ Some l → Extends (W.Store.lists store.old) (W.Store.lists store.new) (W.Store.room store.old) (W.Store.room store.new) (W.Store.cost store.old) l value node place table.old table.new result }
+    ensures whole { W.Store.whole store.new ≡ W.Store.whole store.old }
+    ensures cost { W.Store.cost store.new ≡ W.Store.cost store.old }
+{
+    match store.extend(environment, value) {
+        Ok(made) => {
+            table.pop();
+            Reduced::Body {
+                place,
+                environment: made,
+            }
+        }
+        Err(_) => Reduced::NoStore(node),
+    }
+}
+
+/// A function is applied to its argument.
+fn apply<W: Store<Elem = Value>>(
+    nodes: &[Node],
+    store: &mut W,
+    table: &mut Operations,
+    node: usize,
+    argument: Value,
+    value: Value,
+) -> Reduced
+    requires top { (w : Work) × OnTop nodes.now (W.Store.lists store.old) table.old (Applied node argument) value w × (move w ≢ stuck) }
+    ensures reduces { (w : Work) → OnTop nodes.now (W.Store.lists store.old) table.old (Applied node argument) value w → Reduces nodes.now (room_of (W.Store.whole store.old) (W.Store.cost store.old)) (W.Store.lists store.old) (W.Store.lists store.new) (W.Store.room store.old) (W.Store.room store.new) table.new result w }
+    ensures whole { W.Store.whole store.new ≡ W.Store.whole store.old }
+    ensures cost { W.Store.cost store.new ≡ W.Store.cost store.old }
+{
+    let Value::Function {
+        node: function,
+        environment,
+    } = value
+    else {
+        unreachable!()
+    };
+    let Node::Function(body) = node_of(nodes, function as usize) else {
+        unreachable!()
+    };
+    enter_body(store, table, node, body, environment, argument)
+}
+
+/// A let binds its value.
+fn bind<W: Store<Elem = Value>>(
+    nodes: &[Node],
+    store: &mut W,
+    table: &mut Operations,
+    node: usize,
+    body: usize,
+    environment: u32,
+    value: Value,
+) -> Reduced
+    requires top { (w : Work) × OnTop nodes.now (W.Store.lists store.old) table.old (Bound node body environment) value w }
+    ensures reduces { (w : Work) → OnTop nodes.now (W.Store.lists store.old) table.old (Bound node body environment) value w → Reduces nodes.now (room_of (W.Store.whole store.old) (W.Store.cost store.old)) (W.Store.lists store.old) (W.Store.lists store.new) (W.Store.room store.old) (W.Store.room store.new) table.new result w }
+    ensures whole { W.Store.whole store.new ≡ W.Store.whole store.old }
+    ensures cost { W.Store.cost store.new ≡ W.Store.cost store.old }
+{
+    enter_body(store, table, node, body, environment, value)
+}
+
+/// Two numbers are added.
+fn add<W: Store<Elem = Value>>(
+    nodes: &[Node],
+    store: &W,
+    table: &mut Operations,
+    node: usize,
+    right: Value,
+    value: Value,
+) -> Reduced
+    requires top { (w : Work) × OnTop nodes.now (W.Store.lists store.now) table.old (SumLeft node right) value w × (move w ≢ stuck) }
+    ensures { (w : Work) → OnTop nodes.now (W.Store.lists store.now) table.old (SumLeft node right) value w → Reduces nodes.now (room_of (W.Store.whole store.now) (W.Store.cost store.now)) (W.Store.lists store.now) (W.Store.lists store.now) (W.Store.room store.now) (W.Store.room store.now) table.new result w }
+{
+    let Value::Number(left) = value else {
+        unreachable!()
+    };
+    let Value::Number(right) = right else {
+        unreachable!()
+    };
+    match left.checked_add(right) {
+        Some(sum) => {
+            table.pop();
+            Reduced::Found(Value::Number(sum))
+        }
+        None => Reduced::Range(node),
+    }
+}
+
+/// Two numbers are compared.
+fn compare<W: Store<Elem = Value>>(
+    nodes: &[Node],
+    store: &W,
+    table: &mut Operations,
+    node: usize,
+    right: Value,
+    value: Value,
+) -> Reduced
+    requires top { (w : Work) × OnTop nodes.now (W.Store.lists store.now) table.old (CompareLeft node right) value w × (move w ≢ stuck) }
+    ensures { (w : Work) → OnTop nodes.now (W.Store.lists store.now) table.old (CompareLeft node right) value w → Reduces nodes.now (room_of (W.Store.whole store.now) (W.Store.cost store.now)) (W.Store.lists store.now) (W.Store.lists store.now) (W.Store.room store.now) (W.Store.room store.now) table.new result w }
+{
+    let Value::Number(left) = value else {
+        unreachable!()
+    };
+    let Value::Number(right) = right else {
+        unreachable!()
+    };
+    table.pop();
+    Reduced::Found(Value::Truth(left <= right))
+}
+
+/// A branch is chosen.
+fn choose<W: Store<Elem = Value>>(
+    nodes: &[Node],
+    store: &W,
+    table: &mut Operations,
+    node: usize,
+    then: usize,
+    otherwise: usize,
+    environment: u32,
+    value: Value,
+) -> Reduced
+    requires top { (w : Work) × OnTop nodes.now (W.Store.lists store.now) table.old (Condition node then otherwise environment) value w × (move w ≢ stuck) }
+    ensures { (w : Work) → OnTop nodes.now (W.Store.lists store.now) table.old (Condition node then otherwise environment) value w → Reduces nodes.now (room_of (W.Store.whole store.now) (W.Store.cost store.now)) (W.Store.lists store.now) (W.Store.lists store.now) (W.Store.room store.now) (W.Store.room store.now) table.new result w }
+{
+    let Value::Truth(truth) = value else {
+        unreachable!()
+    };
+    table.pop();
+    Reduced::Body {
+        place: if truth { then } else { otherwise },
+        environment,
+    }
+}
+
+/// Reduces the innermost operation with the value that was found for its operand.
+pub fn reduce<W: Store<Elem = Value>>(
+    nodes: &[Node],
+    store: &mut W,
+    table: &mut Operations,
+    value: Value,
+) -> Reduced
+    requires ready { (w : Work) × Readied nodes.now (W.Store.lists store.old) table.old value w × (move w ≢ stuck) }
+    ensures reduces { (w : Work) → Readied nodes.now (W.Store.lists store.old) table.old value w → Reduces nodes.now (room_of (W.Store.whole store.old) (W.Store.cost store.old)) (W.Store.lists store.old) (W.Store.lists store.new) (W.Store.room store.old) (W.Store.room store.new) table.new result w }
+    ensures whole { W.Store.whole store.new ≡ W.Store.whole store.old }
+    ensures cost { W.Store.cost store.new ≡ W.Store.cost store.old }
+{
+    match table.top() {
+        Operation::Applied { node, argument } => apply(nodes, store, table, node, argument, value),
+        Operation::Bound {
+            node,
+            body,
+            environment,
+        } => bind(nodes, store, table, node, body, environment, value),
+        Operation::SumLeft { node, right } => add(nodes, store, table, node, right, value),
+        Operation::CompareLeft { node, right } => compare(nodes, store, table, node, right, value),
+        Operation::Condition {
+            node,
+            then,
+            otherwise,
+            environment,
+        } => choose(
+            nodes,
+            store,
+            table,
+            node,
+            then,
+            otherwise,
+            environment,
+            value,
+        ),
+        _ => unreachable!(),
+    }
+}

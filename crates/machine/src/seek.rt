@@ -1,0 +1,144 @@
+//! Seeking a value downwards.
+ghost use Rattle.std.specs.Prelude.{◌≡◌, ◌≢◌, ◌<◌, ℕ, length};
+ghost use Rattle.reckoning.specs.Work.{Work};
+ghost use Rattle.reckoning.specs.Moves.{move, stuck};
+ghost use Rattle.record.specs.Nodes.{node_at};
+ghost use Rattle.machine.specs.Places.{Fine};
+ghost use Rattle.machine.specs.Standing.{Meets, Enters, Finds, Deeper};
+ghost use Rattle.values.specs.declared.Value.TheVariants.{Number};
+
+use crate::operation::Operation;
+use crate::operations::{MOST_OPEN, Operations};
+use values::Value;
+use store::contract::Store;
+use syntax::node::Node;
+
+/// Where a node leads.
+#[derive(Clone, Copy)]
+pub enum Entered {
+    /// It has this value.
+    Value(Value),
+    /// Its operation was opened, and the node at this place is next, in the same environment.
+    Child(usize),
+    /// It would be one open operation too many.
+    NoStack(usize),
+}
+
+/// Where seeking a value leads.
+#[derive(Clone, Copy)]
+pub enum Sought {
+    Value(Value),
+    NoStack(usize),
+}
+
+/// The node at a place.
+pub fn node(nodes: &[Node], place: usize) -> Node
+    requires { place < length nodes.now }
+    ensures { result ≡ node_at nodes.now place }
+{
+    nodes[place]
+}
+
+/// A number, as a value.
+pub fn number_value(number: i32) -> Value
+    ensures { result ≡ Number number }
+{
+    Value::Number(number)
+}
+
+/// Enters a node: it has a value, or its operation is opened.
+pub fn enter<W: Store<Elem = Value>>(
+    nodes: &[Node],
+    store: &W,
+    table: &mut Operations,
+    place: usize,
+    environment: u32,
+) -> Entered
+    requires fine { Fine nodes.now }
+    requires meets { (w : Work) × (k : ℕ) × Meets nodes.now (W.Store.lists store.now) table.old place environment w k × (move w ≢ stuck) }
+    ensures deeper { Deeper place result }
+    ensures enters { (w : Work) (k : ℕ) → Meets nodes.now (W.Store.lists store.now) table.old place environment w k → Enters nodes.now (W.Store.lists store.now) table.new environment result w k }
+{
+    let (op, child) = match node(nodes, place) {
+        Node::Number(number) => return Entered::Value(number_value(number)),
+        Node::Truth(truth) => return Entered::Value(Value::Truth(truth)),
+        Node::Variable(distance) => match store.look(environment, distance as u32) {
+            Ok(value) => return Entered::Value(value),
+            Err(_) => unreachable!(),
+        },
+        Node::Function(_) => {
+            return Entered::Value(Value::Function {
+                node: place as u16,
+                environment,
+            });
+        }
+        Node::Application(function, argument) => (
+            Operation::Argument {
+                node: place,
+                function,
+                environment,
+            },
+            argument,
+        ),
+        Node::LetIn(bound, body) => (
+            Operation::Bound {
+                node: place,
+                body,
+                environment,
+            },
+            bound,
+        ),
+        Node::Sum(left, right) => (
+            Operation::SumRight {
+                node: place,
+                left,
+                environment,
+            },
+            right,
+        ),
+        Node::AtMost(left, right) => (
+            Operation::CompareRight {
+                node: place,
+                left,
+                environment,
+            },
+            right,
+        ),
+        Node::IfElse(condition, then, otherwise) => (
+            Operation::Condition {
+                node: place,
+                then,
+                otherwise,
+                environment,
+            },
+            condition,
+        ),
+    };
+    if table.depth == MOST_OPEN {
+        return Entered::NoStack(place);
+    }
+    table.push(op);
+    Entered::Child(child)
+}
+
+/// Seeks a value downwards, from a node on.
+pub fn seek<W: Store<Elem = Value>>(
+    nodes: &[Node],
+    store: &W,
+    table: &mut Operations,
+    place: usize,
+    environment: u32,
+) -> Sought
+    requires fine { Fine nodes.now }
+    requires meets { (w : Work) × (k : ℕ) × Meets nodes.now (W.Store.lists store.now) table.old place environment w k × (move w ≢ stuck) }
+    ensures { (w : Work) (k : ℕ) → Meets nodes.now (W.Store.lists store.now) table.old place environment w k → Finds nodes.now (W.Store.lists store.now) table.new result w k }
+{
+    let mut at = place;
+    loop {
+        match enter(nodes, store, table, at, environment) {
+            Entered::Value(value) => return Sought::Value(value),
+            Entered::Child(child) => at = child,
+            Entered::NoStack(node) => return Sought::NoStack(node),
+        }
+    }
+}

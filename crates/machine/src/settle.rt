@@ -1,0 +1,116 @@
+//! Coming back with a value that was found.
+ghost use Rattle.std.specs.Prelude.{◌≡◌, ◌≢◌, ◌<◌, ℕ, length};
+ghost use Rattle.syntax.specs.declared.node.Node.{Node as Nodes};
+ghost use Rattle.std.specs.Prelude.{List};
+ghost use Rattle.store.specs.Lists.{Lists};
+ghost use Rattle.values.specs.declared.Value.{Value as RunValue};
+ghost use Rattle.reckoning.specs.Work.{Work};
+ghost use Rattle.reckoning.specs.Moves.{move, stuck};
+ghost use Rattle.machine.specs.Places.{Fine};
+ghost use Rattle.machine.specs.Standing.{HasFound, GivesWay, Settles};
+
+use crate::operation::Operation;
+use crate::seek::{Sought, seek};
+use crate::operations::Operations;
+use values::Value;
+use store::contract::Store;
+use syntax::node::Node;
+
+/// What the innermost operation does with a value that was found.
+#[derive(Clone, Copy)]
+pub enum Way {
+    /// There is none.
+    Over,
+    /// It is ready to be reduced with it.
+    Ready,
+    /// It keeps the value, and its left operand is next.
+    Left { place: usize, environment: u32 },
+}
+
+/// Where a value that was found leads, before any reduction.
+#[derive(Clone, Copy)]
+pub enum Settled {
+    Over(Value),
+    Ready(Value),
+    NoStack(usize),
+}
+
+/// Hands a value that was found to the innermost operation: a right operand gives way to the left one.
+pub fn give_way(table: &mut Operations, value: Value) -> Way
+    ensures { (ns : List Nodes) (lists : Lists RunValue) (w : Work) → HasFound ns lists table.old value w → GivesWay ns lists table.old table.new value result w }
+{
+    if table.depth == 0 {
+        return Way::Over;
+    }
+    let (op, way) = match table.top() {
+        Operation::Argument {
+            node,
+            function,
+            environment,
+        } => (
+            Operation::Applied {
+                node,
+                argument: value,
+            },
+            Way::Left {
+                place: function,
+                environment,
+            },
+        ),
+        Operation::SumRight {
+            node,
+            left,
+            environment,
+        } => (
+            Operation::SumLeft { node, right: value },
+            Way::Left {
+                place: left,
+                environment,
+            },
+        ),
+        Operation::CompareRight {
+            node,
+            left,
+            environment,
+        } => (
+            Operation::CompareLeft { node, right: value },
+            Way::Left {
+                place: left,
+                environment,
+            },
+        ),
+        _ => return Way::Ready,
+    };
+    table.put(op);
+    way
+}
+
+/// Comes back with a value through the open operations, to one that is ready to be reduced.
+pub fn settle<W: Store<Elem = Value>>(
+    nodes: &[Node],
+    store: &W,
+    table: &mut Operations,
+    value: Value,
+) -> Settled
+    requires fine { Fine nodes.now }
+    requires found { (w : Work) × HasFound nodes.now (W.Store.lists store.now) table.old value w × (move w ≢ stuck) }
+    ensures { (w : Work) → HasFound nodes.now (W.Store.lists store.now) table.old value w → Settles nodes.now (W.Store.lists store.now) table.new result w }
+{
+    let mut found = value;
+    loop {
+        match give_way(table, found) {
+            Way::Over => return Settled::Over(found),
+            Way::Ready => return Settled::Ready(found),
+            Way::Left { place, environment } => match seek(
+                nodes,
+                store,
+                table,
+                place,
+                environment,
+            ) {
+                Sought::Value(left) => found = left,
+                Sought::NoStack(node) => return Settled::NoStack(node),
+            },
+        }
+    }
+}
