@@ -9,11 +9,11 @@ ghost use Rattle.machine.specs.Standing.{Readied};
 ghost use Rattle.machine.specs.Reducing.{room_of, OnTop, Reduces, Extends};
 
 use crate::operation::Operation;
-use crate::seek::node as node_of;
 use crate::operations::Operations;
-use values::Value;
+use crate::seek::node as node_of;
 use store::contract::Store;
 use syntax::node::Node;
+use values::Value;
 
 /// Where a reduction leads.
 #[derive(Clone, Copy)]
@@ -40,6 +40,7 @@ fn enter_body<W: Store<Elem = Value>>(
     requires open { 0 < table.old.depth }
     requires known { (l : List RunValue) × (W.Store.lists store.old environment ≡ Some l) }
     ensures extends { (l : List RunValue) → W.Store.lists store.old environment ≡ Some l → Extends (W.Store.lists store.old) (W.Store.lists store.new) (W.Store.room store.old) (W.Store.room store.new) (W.Store.cost store.old) l value node place table.old table.new result }
+    ensures base { W.Store.base store.new ≡ W.Store.base store.old }
     ensures whole { W.Store.whole store.new ≡ W.Store.whole store.old }
     ensures cost { W.Store.cost store.new ≡ W.Store.cost store.old }
 {
@@ -66,6 +67,7 @@ fn apply<W: Store<Elem = Value>>(
 ) -> Reduced
     requires top { (w : Work) × OnTop nodes.now (W.Store.lists store.old) table.old (Applied node argument) value w × (move w ≢ stuck) }
     ensures reduces { (w : Work) → OnTop nodes.now (W.Store.lists store.old) table.old (Applied node argument) value w → Reduces nodes.now (room_of (W.Store.whole store.old) (W.Store.cost store.old)) (W.Store.lists store.old) (W.Store.lists store.new) (W.Store.room store.old) (W.Store.room store.new) table.new result w }
+    ensures base { W.Store.base store.new ≡ W.Store.base store.old }
     ensures whole { W.Store.whole store.new ≡ W.Store.whole store.old }
     ensures cost { W.Store.cost store.new ≡ W.Store.cost store.old }
 {
@@ -94,6 +96,7 @@ fn bind<W: Store<Elem = Value>>(
 ) -> Reduced
     requires top { (w : Work) × OnTop nodes.now (W.Store.lists store.old) table.old (Bound node body environment) value w }
     ensures reduces { (w : Work) → OnTop nodes.now (W.Store.lists store.old) table.old (Bound node body environment) value w → Reduces nodes.now (room_of (W.Store.whole store.old) (W.Store.cost store.old)) (W.Store.lists store.old) (W.Store.lists store.new) (W.Store.room store.old) (W.Store.room store.new) table.new result w }
+    ensures base { W.Store.base store.new ≡ W.Store.base store.old }
     ensures whole { W.Store.whole store.new ≡ W.Store.whole store.old }
     ensures cost { W.Store.cost store.new ≡ W.Store.cost store.old }
 {
@@ -182,6 +185,7 @@ pub fn reduce<W: Store<Elem = Value>>(
 ) -> Reduced
     requires ready { (w : Work) × Readied nodes.now (W.Store.lists store.old) table.old value w × (move w ≢ stuck) }
     ensures reduces { (w : Work) → Readied nodes.now (W.Store.lists store.old) table.old value w → Reduces nodes.now (room_of (W.Store.whole store.old) (W.Store.cost store.old)) (W.Store.lists store.old) (W.Store.lists store.new) (W.Store.room store.old) (W.Store.room store.new) table.new result w }
+    ensures base { W.Store.base store.new ≡ W.Store.base store.old }
     ensures whole { W.Store.whole store.new ≡ W.Store.whole store.old }
     ensures cost { W.Store.cost store.new ≡ W.Store.cost store.old }
 {
