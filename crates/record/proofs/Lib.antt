@@ -7,3 +7,4 @@ pub mod Stepping
 pub mod Receiving
 pub mod Decoding
 pub mod Deciding
+pub mod OneTree

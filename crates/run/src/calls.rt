@@ -3,6 +3,7 @@ ghost use Rattle.std.specs.Prelude.{◌≡◌, ◌+◌, ℕ, ℤ, List, length, 
 ghost use Rattle.syntax.specs.Tree.{Tree};
 ghost use Rattle.record.specs.Reading.{IsTree};
 ghost use Rattle.readings.specs.Behind.{numbers_of, values_of, behind, cost_below};
+ghost use Rattle.calculus.specs.Types.{Ty, RuleHas};
 ghost use Rattle.typing.specs.Accepting.{IsRule};
 ghost use Rattle.reckoning.specs.Reckoning.{begun};
 ghost use Rattle.machine.specs.Reducing.{room_of};
@@ -64,6 +65,7 @@ fn begin<S: BareStore + Store<Elem = Value>>(
 impl<S: BareStore + Store<Elem = Value>> Run<S> {
     /// Starts a rule over a store, with all readings 0.
     pub fn start(rule: Rule, store: S) -> Run<S>
+        ensures typed { (r : ℕ) (t : Tree) → IsRule rule r t → (τ : Ty) × RuleHas r t τ }
         ensures rule { result.rule ≡ rule }
         ensures whole { S.Store.whole result.store ≡ S.Store.whole store }
         ensures cost { S.Store.cost result.store ≡ S.Store.cost store }
