@@ -9,6 +9,8 @@ use Rattle.calculus.specs.Term.{Term, number, truth, variable, function, applica
 use Rattle.calculus.specs.Values.{is_value}
 use Rattle.calculus.specs.Substitution.{put_one}
 use Rattle.calculus.specs.Step.{Next, rests, beyond, stuck, to, first, right_left, step, apply, add, compare, choose}
+use Rattle.calculus.specs.Length.{ends}
+use Rattle.calculus.specs.Stuck.{IsStuck}
 use Rattle.calculus.specs.Range.{in_range}
 use Rattle.calculus.specs.Values.{number_of, truth_of, body_of}
 use Rattle.calculus.specs.Rules.{◌⟶◌, apply_function, argument, applied, let_value, bound, sum_numbers, sum_right, sum_left, compare_numbers, compare_right, compare_left, if_true, if_false, condition, Leaves, sum_out, in_argument, in_applied, in_bound, in_sum_right, in_sum_left, in_compare_right, in_compare_left, in_condition}
@@ -178,11 +180,26 @@ step_rule t u e = subst (λ x. Allowed t x) e (step_allowed t)
 to_injective : (t u v : Term) → step t ≡ to u → step t ≡ to v → u ≡ v
 to_injective t u v p q = cc
 
+-- nothing is next exactly where a term is stuck
+
+stuck_by : (t : Term) (next : Next) → step t ≡ next → ends next ≡ false → ((u : Term) → ¬ (t ⟶ u)) → next ≡ stuck
+stuck_by t rests e ends_not no_rule = let z : ◌≡◌ {A = ℕ} 0 1 = cc in absurd (omega arith)
+stuck_by t (beyond n) e ends_not no_rule = let z : ◌≡◌ {A = ℕ} 0 1 = cc in absurd (omega arith)
+stuck_by t stuck e ends_not no_rule = refl
+stuck_by t (to u) e ends_not no_rule = absurd (no_rule u (step_rule t u e))
+
+pub stuck_next : (t : Term) → IsStuck t → step t ≡ stuck
+stuck_next t s = stuck_by t (step t) refl s.0 s.1
+
+next_stuck : (t : Term) → step t ≡ stuck → IsStuck t
+next_stuck t e = (ap ends e, λ u r. let f : to u ≡ stuck = sym (rule_step r) ∙ e in let z : ◌≡◌ {A = ℕ} 0 1 = cc in omega arith)
+
 pub determined : Determined
 determined =
     record {
       reduces = λ t u. (rule_step, step_rule t u);
       leaves = λ t n. (leaves_step, (λ e. subst (λ x. Allowed t x) e (step_allowed t)));
       at_rest = λ t. (value_rests t, (λ e. subst (λ x. Allowed t x) e (step_allowed t)));
+      no_way = λ t. (stuck_next t, next_stuck t);
       one_way = λ t u v p q. to_injective t u v (rule_step p) (rule_step q);
     }

@@ -10,5 +10,6 @@ pub mod Step
 pub mod Open
 pub mod Stages
 pub mod Length
+pub mod Stuck
 pub mod Laws
 pub mod Figures
