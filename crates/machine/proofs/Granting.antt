@@ -154,7 +154,7 @@ room_same whole whole' cost cost' e f = ap (λ x. room_of x cost) e ∙ ap (λ y
 waiting_told : (st : told_state.State) → state_of st ≡ waiting → st ≡ told.Waiting
 waiting_told told.Waiting e = refl
 waiting_told (told.Done x) e = let z : ◌≡◌ {A = ℕ} 0 1 = cc in absurd (omega arith)
-waiting_told (told.Range n) e = let z : ◌≡◌ {A = ℕ} 0 1 = cc in absurd (omega arith)
+waiting_told (told.Range n out) e = let z : ◌≡◌ {A = ℕ} 0 1 = cc in absurd (omega arith)
 waiting_told (told.NoStore n) e = let z : ◌≡◌ {A = ℕ} 0 1 = cc in absurd (omega arith)
 waiting_told (told.NoStack n) e = let z : ◌≡◌ {A = ℕ} 0 1 = cc in absurd (omega arith)
 
