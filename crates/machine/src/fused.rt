@@ -12,11 +12,11 @@ ghost use Rattle.machine.specs.Standing.{Meets, Enters, Deeper};
 ghost use Rattle.machine.specs.Fused.{AtOnce};
 
 use crate::operation::Operation;
-use crate::seek::{Entered, node, number_value};
 use crate::operations::{MOST_OPEN, Operations};
-use values::Value;
+use crate::seek::{Entered, node, number_value};
 use store::contract::Store;
 use syntax::node::Node;
+use values::Value;
 
 /// The value of a node that is worked out at once.
 fn leaf<W: Store<Elem = Value>>(

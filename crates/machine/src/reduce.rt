@@ -41,6 +41,7 @@ fn enter_body<W: Store<Elem = Value>>(
     requires open { 0 < table.old.depth }
     requires known { (l : List RunValue) × (W.Store.lists store.old environment ≡ Some l) }
     ensures extends { (l : List RunValue) → W.Store.lists store.old environment ≡ Some l → Extends (W.Store.lists store.old) (W.Store.lists store.new) (W.Store.room store.old) (W.Store.room store.new) (W.Store.cost store.old) l value node place table.old table.new result }
+    ensures base { W.Store.base store.new ≡ W.Store.base store.old }
     ensures whole { W.Store.whole store.new ≡ W.Store.whole store.old }
     ensures cost { W.Store.cost store.new ≡ W.Store.cost store.old }
 {
@@ -67,6 +68,7 @@ fn apply<W: Store<Elem = Value>>(
 ) -> Reduced
     requires top { (w : Work) × OnTop nodes.now (W.Store.lists store.old) table.old (Applied node argument) value w × (move w ≢ stuck) }
     ensures reduces { (w : Work) → OnTop nodes.now (W.Store.lists store.old) table.old (Applied node argument) value w → Reduces nodes.now (room_of (W.Store.whole store.old) (W.Store.cost store.old)) (W.Store.lists store.old) (W.Store.lists store.new) (W.Store.room store.old) (W.Store.room store.new) table.new result w }
+    ensures base { W.Store.base store.new ≡ W.Store.base store.old }
     ensures whole { W.Store.whole store.new ≡ W.Store.whole store.old }
     ensures cost { W.Store.cost store.new ≡ W.Store.cost store.old }
 {
@@ -95,6 +97,7 @@ fn bind<W: Store<Elem = Value>>(
 ) -> Reduced
     requires top { (w : Work) × OnTop nodes.now (W.Store.lists store.old) table.old (Bound node body environment) value w }
     ensures reduces { (w : Work) → OnTop nodes.now (W.Store.lists store.old) table.old (Bound node body environment) value w → Reduces nodes.now (room_of (W.Store.whole store.old) (W.Store.cost store.old)) (W.Store.lists store.old) (W.Store.lists store.new) (W.Store.room store.old) (W.Store.room store.new) table.new result w }
+    ensures base { W.Store.base store.new ≡ W.Store.base store.old }
     ensures whole { W.Store.whole store.new ≡ W.Store.whole store.old }
     ensures cost { W.Store.cost store.new ≡ W.Store.cost store.old }
 {
@@ -183,6 +186,7 @@ pub fn reduce<W: Store<Elem = Value>>(
 ) -> Reduced
     requires ready { (w : Work) × Readied nodes.now (W.Store.lists store.old) table.old value w × (move w ≢ stuck) }
     ensures reduces { (w : Work) → Readied nodes.now (W.Store.lists store.old) table.old value w → Reduces nodes.now (room_of (W.Store.whole store.old) (W.Store.cost store.old)) (W.Store.lists store.old) (W.Store.lists store.new) (W.Store.room store.old) (W.Store.room store.new) table.new result w }
+    ensures base { W.Store.base store.new ≡ W.Store.base store.old }
     ensures whole { W.Store.whole store.new ≡ W.Store.whole store.old }
     ensures cost { W.Store.cost store.new ≡ W.Store.cost store.old }
 {

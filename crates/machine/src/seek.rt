@@ -9,9 +9,9 @@ ghost use Rattle.values.specs.declared.Value.TheVariants.{Number};
 
 use crate::operation::Operation;
 use crate::operations::{MOST_OPEN, Operations};
-use values::Value;
 use store::contract::Store;
 use syntax::node::Node;
+use values::Value;
 
 /// Where a node leads.
 #[derive(Clone, Copy)]

@@ -10,11 +10,11 @@ ghost use Rattle.machine.specs.Places.{Fine};
 ghost use Rattle.machine.specs.Standing.{HasFound, GivesWay, Settles};
 
 use crate::operation::Operation;
-use crate::seek::{Sought, seek};
 use crate::operations::Operations;
-use values::Value;
+use crate::seek::{Sought, seek};
 use store::contract::Store;
 use syntax::node::Node;
+use values::Value;
 
 /// What the innermost operation does with a value that was found.
 #[derive(Clone, Copy)]

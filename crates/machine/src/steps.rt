@@ -139,6 +139,7 @@ impl Machine {
         requires stands { (root : Root) × (s : Reckoned) × StandsAt nodes.now (W.Store.lists store.old) (room_of (W.Store.whole store.old) (W.Store.cost store.old)) (W.Store.room store.old) root self.old s × NeverStuck (room_of (W.Store.whole store.old) (W.Store.cost store.old)) s }
         ensures goes { (root : Root) (s : Reckoned) → StandsAt nodes.now (W.Store.lists store.old) (room_of (W.Store.whole store.old) (W.Store.cost store.old)) (W.Store.room store.old) root self.old s → StandsAt nodes.now (W.Store.lists store.new) (room_of (W.Store.whole store.old) (W.Store.cost store.old)) (W.Store.room store.new) root self.new (granted (room_of (W.Store.whole store.old) (W.Store.cost store.old)) s) }
         ensures low { self.new.count ≤ self.old.count + 1 }
+        ensures base { W.Store.base store.new ≡ W.Store.base store.old }
         ensures whole { W.Store.whole store.new ≡ W.Store.whole store.old }
         ensures cost { W.Store.cost store.new ≡ W.Store.cost store.old }
     {
@@ -162,6 +163,7 @@ impl Machine {
         requires low { self.old.count + granted < 4294967296 }
         requires stands { (root : Root) × (s : Reckoned) × StandsAt nodes.now (W.Store.lists store.old) (room_of (W.Store.whole store.old) (W.Store.cost store.old)) (W.Store.room store.old) root self.old s × NeverStuck (room_of (W.Store.whole store.old) (W.Store.cost store.old)) s }
         ensures goes { (root : Root) (s : Reckoned) → StandsAt nodes.now (W.Store.lists store.old) (room_of (W.Store.whole store.old) (W.Store.cost store.old)) (W.Store.room store.old) root self.old s → StandsAt nodes.now (W.Store.lists store.new) (room_of (W.Store.whole store.old) (W.Store.cost store.old)) (W.Store.room store.new) root self.new (steps (room_of (W.Store.whole store.old) (W.Store.cost store.old)) granted s) }
+        ensures base { W.Store.base store.new ≡ W.Store.base store.old }
         ensures whole { W.Store.whole store.new ≡ W.Store.whole store.old }
         ensures cost { W.Store.cost store.new ≡ W.Store.cost store.old }
     {
