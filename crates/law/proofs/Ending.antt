@@ -25,7 +25,7 @@ told_state Waiting = refl
 told_state (Done (value.Number k)) = refl
 told_state (Done (value.Truth b)) = refl
 told_state (Done (value.Function n h)) = refl
-told_state (Range n) = refl
+told_state (Range n out) = refl
 told_state (NoStore n) = refl
 told_state (NoStack n) = refl
 

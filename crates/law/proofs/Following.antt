@@ -9,6 +9,7 @@ use Rattle.calculus.specs.Term.{Term}
 use Rattle.calculus.specs.Types.{Ty, RuleHas}
 use Rattle.calculus.specs.Rules.{Leaves}
 use Rattle.calculus.specs.Step.{Next, rests, beyond, stuck, to, step}
+use Rattle.calculus.specs.Stuck.{IsStuck}
 use Rattle.calculus.specs.Stages.{start, stage}
 use Rattle.calculus.specs.Length.{Answer, Length, over, ends, value_answer, answer, told}
 use Rattle.calculus.proofs.Safety.{never_stuck, value_belongs}
@@ -21,9 +22,10 @@ use Rattle.reckoning.specs.Reckoning.{Reckoned, reckoned, state}
 use Rattle.reckoning.specs.Reckoning as plain
 use Rattle.reckoning.specs.Laws.{Suffices, stage_state, AtStages}
 use Rattle.reckoning.proofs.Reckoning.{follows_stages}
+use Rattle.arithmetic.specs.declared.OutOfRange.{OutOfRange}
 use Rattle.run.specs.Told.{answer_of, state_of, IsShort}
 use Rattle.law.specs.Turns.{Since, started, after_call, since}
-use Rattle.law.specs.Law.{IsStuck, Play, readings_of, granted_of, first_stage, play_room, HoldsOf, Comparable, TellSame, AddUpAlike, Law, StandsAtEnd, Follows}
+use Rattle.law.specs.Law.{Play, readings_of, granted_of, first_stage, play_room, HoldsOf, Comparable, TellSame, AddUpAlike, Law, StandsAtEnd, Follows}
 use Rattle.run.specs.Faults.{rewind_answer}
 use Rattle.law.specs.Replies.{IsReply, Replied}
 use Rattle.run.specs.declared.fault.RunFault.{RunFault}
@@ -70,14 +72,14 @@ since_length room r t now (turn ∷ turns) e h =
 not_short : (told : State) (s : plain.State) → state_of told ≡ s → ¬ IsShort told → Suffices s
 not_short Waiting s e h = subst Suffices e tt
 not_short (Done f) s e h = subst Suffices e tt
-not_short (Range n) s e h = subst Suffices e tt
+not_short (Range n out) s e h = subst Suffices e tt
 not_short (NoStore n) s e h = absurd (h tt)
 not_short (NoStack n) s e h = absurd (h tt)
 
 waiting_back : (told : State) → state_of told ≡ plain.waiting → told ≡ Waiting
 waiting_back Waiting e = refl
 waiting_back (Done f) e = let z : ◌≡◌ {A = ℕ} 0 1 = cc in absurd (omega arith)
-waiting_back (Range n) e = let z : ◌≡◌ {A = ℕ} 0 1 = cc in absurd (omega arith)
+waiting_back (Range n out) e = let z : ◌≡◌ {A = ℕ} 0 1 = cc in absurd (omega arith)
 waiting_back (NoStore n) e = let z : ◌≡◌ {A = ℕ} 0 1 = cc in absurd (omega arith)
 waiting_back (NoStack n) e = let z : ◌≡◌ {A = ℕ} 0 1 = cc in absurd (omega arith)
 
@@ -149,8 +151,8 @@ next_beyond u (beyond k) n e = cc
 next_beyond u stuck n e = let z : ◌≡◌ {A = ℕ} 0 1 = cc in absurd (omega arith)
 next_beyond u (to v) n e = let z : ◌≡◌ {A = ℕ} 0 1 = cc in absurd (omega arith)
 
-range_told : (p : Play) → StandsAtEnd p → (n : ℕ) → p.report.state ≡ Range n → Leaves (stage p.report.count (first_stage p)) n
-range_told p end n e =
+range_told : (p : Play) → StandsAtEnd p → (n : ℕ) (out : OutOfRange) → p.report.state ≡ Range n out → Leaves (stage p.report.count (first_stage p)) n
+range_told p end n out e =
     let r = reckoned (play_room p) (readings_of p) p.tree (granted_of p) in
     let u = stage p.report.count (first_stage p) in
     let q : state r ≡ plain.over (Answer.range n) = sym end.reckoned.in_state ∙ ap state_of e in
@@ -235,7 +237,7 @@ state_injective x y e = sym (there x) ∙ ap back e ∙ there y
     back (plain.over (Answer.number k)) = Done (Number k)
     back (plain.over (Answer.truth b)) = Done (Truth b)
     back (plain.over (Answer.function n)) = Done (Function n)
-    back (plain.over (Answer.range n)) = Range n
+    back (plain.over (Answer.range n)) = Range n (record {})
     back (plain.no_store n) = NoStore n
     back (plain.no_stack n) = NoStack n
 
@@ -244,7 +246,7 @@ state_injective x y e = sym (there x) ∙ ap back e ∙ there y
     there (Done (Number k)) = refl
     there (Done (Truth b)) = refl
     there (Done (Function n)) = refl
-    there (Range n) = refl
+    there (Range n out) = refl
     there (NoStore n) = refl
     there (NoStack n) = refl
 

@@ -1,5 +1,5 @@
 -- The law of whole runs.
-use Rattle.std.specs.Prelude.{◌≡◌, ◌↔◌, ◌⊎◌, false, ℕ, ℤ, ◌<◌, ◌≤◌, min, List, length}
+use Rattle.std.specs.Prelude.{◌≡◌, ◌↔◌, ◌⊎◌, ℕ, ℤ, ◌<◌, ◌≤◌, min, List, length}
 use Rattle.std.proofs.Math.Option.{some}
 use Rattle.syntax.specs.Tree.{Tree}
 use Rattle.syntax.specs.declared.node.Node.{Node}
@@ -9,15 +9,17 @@ use Rattle.readings.specs.Behind.{as_values, behind}
 use Rattle.typing.specs.Judging.{TypeAnswer}
 use Rattle.calculus.specs.Term.{Term}
 use Rattle.calculus.specs.Types.{Ty, RuleHas, Belongs}
-use Rattle.calculus.specs.Rules.{◌⟶◌, Leaves}
+use Rattle.calculus.specs.Rules.{Leaves}
+use Rattle.calculus.specs.Stuck.{IsStuck}
 use Rattle.calculus.specs.Stages.{start, stage}
-use Rattle.calculus.specs.Length.{Length, over, value_answer}
+use Rattle.calculus.specs.Length.{Length, value_answer}
 use Rattle.reckoning.specs.Room.{Room, free}
 use Rattle.reckoning.specs.Room as reckoning
 use Rattle.reckoning.specs.Reckoning.{Reckoned, reckoned, state}
 use Rattle.machine.specs.Handles.{Owned}
 use Rattle.machine.specs.Reducing.{room_of}
 use Rattle.machine.specs.Running.{rooted}
+use Rattle.arithmetic.specs.declared.OutOfRange.{OutOfRange}
 use Rattle.run.specs.Told.{answer_of, state_of, IsShort}
 use Rattle.run.specs.Standing.{Seen, IsAt}
 use Rattle.run.specs.declared.report.Found.{Found}
@@ -59,10 +61,6 @@ first_stage p = start (readings_of p) p.tree
 abbrev pub stage_of : Play → Term
 stage_of p = stage p.report.count (first_stage p)
 
--- not over, and no reduction is next
-abbrev pub IsStuck : Term → Type 0
-IsStuck t = (over t ≡ false) × ((u : Term) → ¬ (t ⟶ u))
-
 -- the room that the run works in: its readings lie behind every list and cost nothing
 abbrev pub play_room : Play → Room
 play_room p = reckoning.behind p.r p.room
@@ -94,7 +92,7 @@ pub record HoldsOf (p : Play) : Type 0 where
   pub value : (found : Found) → p.report.state ≡ told.Done found → value_answer (stage_of p) ≡ some (answer_of found)
   pub belongs : (found : Found) → p.report.state ≡ told.Done found → (τ : Ty) → RuleHas p.r p.tree τ → Belongs (stage_of p) τ
   -- a sum told to leave the number range is the one that is next at that stage, and leaves it
-  pub range : (n : ℕ) → p.report.state ≡ told.Range n → Leaves (stage_of p) n
+  pub range : (n : ℕ) (out : OutOfRange) → p.report.state ≡ told.Range n out → Leaves (stage_of p) n
   -- it is short of room exactly where that is reckoned, with the state and count given there, and gives its store back
   -- with the free room so reckoned
   pub reckoned : AsReckoned p

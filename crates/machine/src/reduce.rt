@@ -11,6 +11,7 @@ ghost use Rattle.machine.specs.Reducing.{room_of, OnTop, Reduces, Extends};
 use crate::operation::Operation;
 use crate::operations::Operations;
 use crate::seek::node as node_of;
+use arithmetic::OutOfRange;
 use store::contract::Store;
 use syntax::node::Node;
 use values::Value;
@@ -23,7 +24,7 @@ pub enum Reduced {
     /// To a body, or to the branch of an if.
     Body { place: usize, environment: u32 },
     /// Nowhere: the sum leaves the number range.
-    Range(usize),
+    Range { node: usize, beyond: OutOfRange },
     /// Nowhere: the extension costs more than is free.
     NoStore(usize),
 }
@@ -121,12 +122,12 @@ fn add<W: Store<Elem = Value>>(
     let Value::Number(right) = right else {
         unreachable!()
     };
-    match left.checked_add(right) {
-        Some(sum) => {
+    match arithmetic::sum(left, right) {
+        Ok(sum) => {
             table.pop();
             Reduced::Found(Value::Number(sum))
         }
-        None => Reduced::Range(node),
+        Err(beyond) => Reduced::Range { node, beyond },
     }
 }
 

@@ -20,6 +20,7 @@ use crate::operations::Operations;
 use crate::reduce::{Reduced, reduce};
 use crate::seek::{Sought, seek};
 use crate::settle::{Settled, settle};
+use arithmetic::OutOfRange;
 use store::contract::Store;
 use syntax::node::Node;
 use values::Value;
@@ -29,7 +30,7 @@ use values::Value;
 pub enum State {
     Waiting,
     Done(Value),
-    Range(usize),
+    Range { node: usize, beyond: OutOfRange },
     NoStore(usize),
     NoStack(usize),
 }
@@ -55,9 +56,9 @@ fn sum_ahead(node: usize, right: Value, left: Value) -> State
     let Value::Number(left) = left else {
         return State::Waiting;
     };
-    match left.checked_add(right) {
-        Some(_) => State::Waiting,
-        None => State::Range(node),
+    match arithmetic::sum(left, right) {
+        Ok(_) => State::Waiting,
+        Err(beyond) => State::Range { node, beyond },
     }
 }
 
@@ -151,7 +152,7 @@ impl Machine {
                 self.count += 1;
                 self.go_to(nodes, store, place, environment);
             }
-            Reduced::Range(_) => unreachable!(),
+            Reduced::Range { .. } => unreachable!(),
             Reduced::NoStore(node) => self.state = State::NoStore(node),
         }
     }

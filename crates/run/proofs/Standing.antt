@@ -11,7 +11,8 @@ use Rattle.reckoning.specs.Room.{Room}
 use Rattle.reckoning.specs.Reckoning.{Reckoned, begun, reckoned, steps}
 use Rattle.machine.specs.Reducing.{room_of}
 use Rattle.machine.specs.Running.{StandsAt, NeverStuck, rooted}
-use Rattle.machine.proofs.Granting.{steps_steps, never_stuck_on, room_same}
+use Rattle.reckoning.proofs.Steps.{steps_add_up}
+use Rattle.machine.proofs.Granting.{never_stuck_on, room_same}
 use Rattle.machine.proofs.Beginning.{never_stuck}
 use Rattle.run.specs.Standing.{Seen, nodes_of, IsAt, Keeps}
 use Rattle.run.proofs.Layer.{room_behind}
@@ -98,7 +99,7 @@ module _ {S : Type 0} (lists : S → Lists Value) (whole room : S → ℕ) (cost
         let s = reckoned (layer_room old) old.readings t g in
         let there = goes s (stands_where_at old t readings g at) in
         let added : steps (layer_room old) n s ≡ reckoned (layer_room old) old.readings t (g + n) =
-        steps_steps (layer_room old) (begun old.readings t) n g ∙ ap (λ k. reckoned (layer_room old) old.readings t k) (commutes n g) in
+        steps_add_up (layer_room old) (begun old.readings t) n g ∙ ap (λ k. reckoned (layer_room old) old.readings t k) (commutes n g) in
         let one = subst (λ x. StandsAt (nodes_of old) (behind (as_values new.readings) (lists new.store)) (layer_room old) (room new.store)
         (rooted 0 old.readings) new.machine x) added there in
         let two = subst (λ r. StandsAt (nodes_of old) (behind (as_values new.readings) (lists new.store)) r (room new.store)

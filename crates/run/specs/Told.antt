@@ -18,7 +18,7 @@ answer_of (Function n) = Answer.function n
 abbrev pub state_of : State → plain.State
 state_of Waiting = plain.waiting
 state_of (Done found) = plain.over (answer_of found)
-state_of (Range n) = plain.over (Answer.range n)
+state_of (Range n out) = plain.over (Answer.range n)
 state_of (NoStore n) = plain.no_store n
 state_of (NoStack n) = plain.no_stack n
 
@@ -26,7 +26,7 @@ state_of (NoStack n) = plain.no_stack n
 abbrev pub IsShort : State → Type 0
 IsShort Waiting = ⊥
 IsShort (Done found) = ⊥
-IsShort (Range n) = ⊥
+IsShort (Range n out) = ⊥
 IsShort (NoStore n) = Unit {0}
 IsShort (NoStack n) = Unit {0}
 
@@ -36,6 +36,6 @@ told machine_state.Waiting = Waiting
 told (machine_state.Done (value.Number k)) = Done (Number k)
 told (machine_state.Done (value.Truth b)) = Done (Truth b)
 told (machine_state.Done (value.Function n h)) = Done (Function n)
-told (machine_state.Range n) = Range n
+told (machine_state.Range n out) = Range n out
 told (machine_state.NoStore n) = NoStore n
 told (machine_state.NoStack n) = NoStack n

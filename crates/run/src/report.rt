@@ -3,6 +3,7 @@ ghost use Rattle.std.specs.Prelude.{◌≡◌};
 ghost use Rattle.machine.specs.declared.steps.State.{State as MachineState};
 ghost use Rattle.run.specs.Told.{told};
 
+use arithmetic::OutOfRange;
 use machine::steps;
 use values::Value;
 
@@ -22,7 +23,7 @@ pub enum State {
     /// The rule is worked out.
     Done(Found),
     /// The sum at this node is next, and leaves the number range.
-    Range { node: usize },
+    Range { node: usize, beyond: OutOfRange },
     /// The environment that is made at this node costs more than is free.
     NoStore { node: usize },
     /// The operation at this node would be the 257th to be open.
@@ -48,7 +49,7 @@ impl State {
             steps::State::Done(Value::Function { node, .. }) => State::Done(Found::Function {
                 node: usize::from(node),
             }),
-            steps::State::Range(node) => State::Range { node },
+            steps::State::Range { node, beyond } => State::Range { node, beyond },
             steps::State::NoStore(node) => State::NoStore { node },
             steps::State::NoStack(node) => State::NoStack { node },
         }
