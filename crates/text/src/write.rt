@@ -34,12 +34,12 @@ impl Writer<'_> {
     }
 
     /// Writes the tree at a node.
-    pub(crate) fn tree(&mut self, nodes: &[Node], root: usize)
+    pub(crate) fn tree(&mut self, nodes: &[Node], root: u16)
         requires { Fits nodes.now root self.old }
         ensures same_reference { self.new.out.ghost_name ≡ self.old.out.ghost_name }
         ensures wrote { Wrote nodes.now root self.old self.new }
     {
-        let node = nodes[root];
+        let node = nodes[usize::from(root)];
         self.put(&[u8::from(node.kind())]);
         match node {
             Node::Number(number) => self.put(&number.to_be_bytes()),
