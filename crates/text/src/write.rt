@@ -5,11 +5,11 @@ ghost use Rattle.text.specs.Writing.{Put, Fits, Wrote};
 
 use syntax::node::Node;
 
-/// The two lowest bytes of a number, the higher first.
-pub(crate) fn two_bytes(number: usize) -> [u8; 2]
-    ensures { result ≡ Record.two_bytes number }
+/// The bytes of a number, the higher first.
+pub(crate) fn two_bytes(value: u16) -> [u8; 2]
+    ensures { result ≡ Record.two_bytes value }
 {
-    ((number % 65_536) as u16).to_be_bytes()
+    value.to_be_bytes()
 }
 
 /// A buffer, and the place up to which it is written.
