@@ -50,3 +50,6 @@ pub enum Operation {
         environment: u32,
     },
 }
+
+// A machine has room for 256 of them.
+const _: () = prove!(size_of::<Operation>() == 12);

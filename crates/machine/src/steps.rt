@@ -44,6 +44,9 @@ pub struct Machine {
     pub state: State,
 }
 
+// A controller keeps one for each rule that runs.
+const _: () = prove!(size_of::<Machine>() == 3_104);
+
 /// What is told of a sum that is next.
 fn sum_ahead(node: u16, right: Value, left: Value) -> State
     ensures { result ≡ sum_is_ahead node right left }
