@@ -4,7 +4,6 @@ ghost use Rattle.values.specs.declared.Value.{Value as RunValue};
 ghost use Rattle.reckoning.specs.Work.{Work};
 ghost use Rattle.reckoning.specs.Moves.{move, stuck};
 ghost use Rattle.machine.specs.declared.operation.Operation.TheVariants.{Applied, Bound, SumLeft, CompareLeft, Condition};
-ghost use Rattle.machine.specs.Places.{Fine};
 ghost use Rattle.machine.specs.Standing.{Readied};
 ghost use Rattle.machine.specs.Reducing.{room_of, OnTop, Reduces, Extends};
 
@@ -22,19 +21,19 @@ pub enum Reduced {
     /// To a value.
     Found(Value),
     /// To a body, or to the branch of an if.
-    Body { place: usize, environment: u32 },
+    Body { place: u16, environment: u32 },
     /// Nowhere: the sum leaves the number range.
-    Range { node: usize, beyond: OutOfRange },
+    Range { node: u16, beyond: OutOfRange },
     /// Nowhere: the extension costs more than is free.
-    NoStore(usize),
+    NoStore(u16),
 }
 
 /// Puts a value before an environment, and enters a body in it.
 fn enter_body<W: Store<Elem = Value>>(
     store: &mut W,
     table: &mut Operations,
-    node: usize,
-    place: usize,
+    node: u16,
+    place: u16,
     environment: u32,
     value: Value,
 ) -> Reduced
@@ -62,7 +61,7 @@ fn apply<W: Store<Elem = Value>>(
     nodes: &[Node],
     store: &mut W,
     table: &mut Operations,
-    node: usize,
+    node: u16,
     argument: Value,
     value: Value,
 ) -> Reduced
@@ -79,7 +78,7 @@ fn apply<W: Store<Elem = Value>>(
     else {
         unreachable!()
     };
-    let Node::Function(body) = node_of(nodes, function as usize) else {
+    let Node::Function(body) = node_of(nodes, function) else {
         unreachable!()
     };
     enter_body(store, table, node, body, environment, argument)
@@ -90,8 +89,8 @@ fn bind<W: Store<Elem = Value>>(
     nodes: &[Node],
     store: &mut W,
     table: &mut Operations,
-    node: usize,
-    body: usize,
+    node: u16,
+    body: u16,
     environment: u32,
     value: Value,
 ) -> Reduced
@@ -109,7 +108,7 @@ fn add<W: Store<Elem = Value>>(
     nodes: &[Node],
     store: &W,
     table: &mut Operations,
-    node: usize,
+    node: u16,
     right: Value,
     value: Value,
 ) -> Reduced
@@ -136,7 +135,7 @@ fn compare<W: Store<Elem = Value>>(
     nodes: &[Node],
     store: &W,
     table: &mut Operations,
-    node: usize,
+    node: u16,
     right: Value,
     value: Value,
 ) -> Reduced
@@ -158,9 +157,9 @@ fn choose<W: Store<Elem = Value>>(
     nodes: &[Node],
     store: &W,
     table: &mut Operations,
-    node: usize,
-    then: usize,
-    otherwise: usize,
+    node: u16,
+    then: u16,
+    otherwise: u16,
     environment: u32,
     value: Value,
 ) -> Reduced

@@ -2,9 +2,9 @@ pub mod Standing
 pub mod Asking
 pub mod Walking
 pub mod Holding
+pub mod Telling
 pub mod Growing
 pub mod Stepping
 pub mod Receiving
 pub mod Decoding
 pub mod Deciding
-pub mod OneTree

@@ -12,7 +12,7 @@ use values::Value;
 pub enum Found {
     Number(i32),
     Truth(bool),
-    Function { node: usize },
+    Function { node: u16 },
 }
 
 /// The state of a run.
@@ -23,11 +23,11 @@ pub enum State {
     /// The rule is worked out.
     Done(Found),
     /// The sum at this node is next, and leaves the number range.
-    Range { node: usize, beyond: OutOfRange },
+    Range { node: u16, beyond: OutOfRange },
     /// The environment that is made at this node costs more than is free.
-    NoStore { node: usize },
+    NoStore { node: u16 },
     /// The operation at this node would be the 257th to be open.
-    NoStack { node: usize },
+    NoStack { node: u16 },
 }
 
 /// The count of a run's steps, and its state.
@@ -47,7 +47,7 @@ impl State {
             steps::State::Done(Value::Number(number)) => State::Done(Found::Number(number)),
             steps::State::Done(Value::Truth(truth)) => State::Done(Found::Truth(truth)),
             steps::State::Done(Value::Function { node, .. }) => State::Done(Found::Function {
-                node: usize::from(node),
+                node: u16::from(node),
             }),
             steps::State::Range { node, beyond } => State::Range { node, beyond },
             steps::State::NoStore(node) => State::NoStore { node },

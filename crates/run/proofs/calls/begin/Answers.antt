@@ -1,19 +1,12 @@
 use Rattle.std.proofs.Common.{◌≡◌, length, sym, ap, ◌∙◌, subst}
 use Rattle.readings.specs.Behind.{numbers_of, values_of, behind, cost_below}
 use Rattle.calculus.specs.Types.{RuleHas}
-use Rattle.machine.specs.Places.{Fine}
 use Rattle.machine.specs.Running.{Begins, StandsAt, rooted}
 use Rattle.machine.specs.Reducing.{room_of}
-use Rattle.machine.proofs.Fitting.{tree_fine}
 use Rattle.machine.proofs.Beginning.{never_stuck}
 use Rattle.reckoning.specs.Reckoning.{begun}
 use Rattle.run.proofs.Layer.{as_values_injective, cost_below_injective, cleared_begins}
 use Rattle.run.proofs.calls.begin.Goals as goal
-
-pub begin-requires-clause-fine : goal.begin-requires-clause-fine
-begin-requires-clause-fine g c =
-    let rule = c.rule.invariant in
-    subst (λ ns. Fine ns) (sym c.as_slice.ensures.value) (tree_fine c.rule.inside.received rule.0 rule.2)
 
 pub begin-requires-clause-begins : goal.begin-requires-clause-begins
 begin-requires-clause-begins g c =

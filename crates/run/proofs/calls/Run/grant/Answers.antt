@@ -1,18 +1,11 @@
 use Rattle.std.proofs.Common.{◌≡◌, refl, sym, ap, ◌∙◌, subst}
 use Rattle.readings.specs.Behind.{numbers_of, as_values, values_of, behind, cost_below}
 use Rattle.reckoning.specs.Reckoning.{Reckoned, reckoned, steps}
-use Rattle.machine.specs.Places.{Fine}
 use Rattle.machine.specs.Running.{StandsAt, rooted}
-use Rattle.machine.proofs.Fitting.{tree_fine}
 use Rattle.run.specs.Standing.{Seen, IsAt, Keeps}
 use Rattle.run.proofs.Layer.{as_values_injective, cost_below_injective}
 use Rattle.run.proofs.Standing.{layer_room, Stands, stands_where_at, never_stuck_here, granted_at, granted_keeps}
 use Rattle.run.proofs.calls.Run.grant.Goals as goal
-
-pub grant-requires-clause-fine : goal.grant-requires-clause-fine
-grant-requires-clause-fine g c =
-    let rule = c.self-inside.invariant in
-    subst (λ ns. Fine ns) (sym c.as_slice.ensures.value) (tree_fine c.self-inside.inside.0.0.received rule.0 rule.2)
 
 pub grant-requires-clause-stands : goal.grant-requires-clause-stands
 grant-requires-clause-stands g c =

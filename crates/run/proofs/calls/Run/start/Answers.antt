@@ -2,7 +2,7 @@ use Rattle.std.proofs.Common.{◌≡◌, length, min, pos, ap, ◌∙◌, subst,
 use Rattle.std.proofs.lemmas.List.{length-replicate}
 use Rattle.readings.specs.Behind.{numbers_of}
 use Rattle.record.specs.Reading.{IsTree}
-use Rattle.record.proofs.OneTree.{one_tree}
+use Rattle.record.proofs.Telling.{one_tree}
 use Rattle.calculus.specs.Types.{RuleHas}
 use Rattle.run.proofs.Standing.{begun_keeps}
 use Rattle.run.proofs.calls.Run.start.Goals as goal
