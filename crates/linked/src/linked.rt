@@ -1,5 +1,6 @@
 //! The store over lent cells.
 ghost use Rattle.std.specs.Prelude.{◌≡◌, ◌+◌, ◌≤◌, min, [], length, nat_le};
+ghost use Rattle.std.proofs.Common.{refl, rules};
 ghost use Rattle.store.specs.Lists.{Found};
 ghost use Rattle.linked.specs.Walk.{walk, blanks, lists_of, whole_of, room_of, New, Pushed};
 
@@ -69,7 +70,7 @@ impl<'a, T: Blank + Copy> Store for LinkedStore<'a, T> {
 
     ghost wiped = { λ s. s.cells.now ≡ blanks T.Blank.unwritten s.cells.now };
 
-    fn sound(&self) {}
+    ghost sound = { λ s. Prim.search rules };
 
     fn clear(&mut self) {
         self.cells.fill_with(|| Cell::blank());
@@ -119,5 +120,5 @@ fn find<T: Blank + Copy>(cells: &[Cell<T>], handle: u32, index: u32) -> Result<T
 }
 
 impl<'a, T: Blank + Copy> BareStore for LinkedStore<'a, T> {
-    fn bare(&self) {}
+    ghost bare = { λ s. refl };
 }

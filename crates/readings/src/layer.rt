@@ -1,12 +1,13 @@
 //! The layer that lays the readings behind every list of the store below.
-ghost use Rattle.std.specs.Prelude.{◌≡◌, ◌≤◌};
+ghost use Rattle.std.specs.Prelude.{◌≡◌, ◌-◌, ◌≤◌, length, Some};
+ghost use Rattle.std.proofs.Common.{ap, ◌∙◌};
 ghost use Rattle.store.specs.Lists.{Extended, Looked};
-ghost use Rattle.readings.specs.Behind.{values_of, behind, cost_below, Read};
+ghost use Rattle.readings.specs.Behind.{values_of, added, behind, cost_below, Read};
 
 use crate::readings_list::Readings;
-use values::Value;
 use store::contract::{BareStore, Store};
 use store::fault::StoreFault;
+use values::Value;
 
 /// A store of run values with the readings behind every list.
 pub struct ReadingsLayer<S> {
@@ -19,12 +20,12 @@ fn reading(readings: &Readings, length: u32, index: u32) -> Result<Value, StoreF
     requires { length ≤ index }
     ensures { Read (values_of readings.now) length index result }
 {
-    readings
-        .get((index - length) as usize)
-        .map(Value::Number)
-        .ok_or_else(|| StoreFault::Beyond {
+    match readings.get((index - length) as usize) {
+        Some(number) => Ok(Value::Number(number)),
+        None => Err(StoreFault::Beyond {
             length: length + readings.len() as u32,
-        })
+        }),
+    }
 }
 
 impl<S: BareStore + Store<Elem = Value>> ReadingsLayer<S> {
@@ -66,10 +67,13 @@ impl<S: BareStore + Store<Elem = Value>> ReadingsLayer<S> {
     fn look_behind(&self, handle: u32, index: u32) -> Result<Value, StoreFault>
         ensures { Looked (behind (values_of self.now.readings) (S.Store.lists self.now.below)) handle index result }
     {
-        self.below.look(handle, index).or_else(|fault| match fault {
-            StoreFault::Beyond { length } => reading(&self.readings, length, index),
-            other => Err(other),
-        })
+        match self.below.look(handle, index) {
+            Ok(element) => Ok(element),
+            Err(StoreFault::Beyond { length }) => reading(&self.readings, length, index),
+            Err(StoreFault::NoList) => Err(StoreFault::NoList),
+            // A look takes no room.
+            Err(StoreFault::NoRoom) => unreachable!(),
+        }
     }
 }
 
@@ -88,14 +92,15 @@ impl<S: BareStore + Store<Elem = Value>> Store for ReadingsLayer<S> {
 
     ghost wiped = { λ s. S.Store.wiped s.below };
 
-    fn sound(&self) {
-        self.below.sound();
-        self.below.bare();
-    }
+    ghost sound = { λ s. let below = S.Store.sound s.below in record {
+      root = ap (added (values_of s.readings)) (below.root ∙ ap Some (S.BareStore.bare s.below));
+      bounded = below.bounded;
+      within = below.within;
+      charged = λ n. below.charged (n - length (values_of s.readings));
+    } };
 
     fn clear(&mut self) {
         self.below.clear();
-        self.below.bare();
     }
 
     fn extend(&mut self, handle: u32, elem: Value) -> Result<u32, StoreFault> {
