@@ -16,6 +16,7 @@ pub struct ReadingsLayer<S> {
 }
 
 /// The answer at an index beyond the `length` elements below: a reading, or the whole length.
+#[inline]
 fn reading(readings: &Readings, length: u32, index: u32) -> Result<Value, StoreFault>
     requires { length ≤ index }
     ensures { Read (values_of readings.now) length index result }
@@ -54,6 +55,7 @@ impl<S: BareStore + Store<Elem = Value>> ReadingsLayer<S> {
     }
 
     /// Extends the list below: the readings stay behind it.
+    #[inline]
     fn extend_below(&mut self, handle: u32, elem: Value) -> Result<u32, StoreFault>
         ensures extended { Extended (behind (values_of self.old.readings) (S.Store.lists self.old.below)) (behind (values_of self.new.readings) (S.Store.lists self.new.below)) (S.Store.room self.old.below) (S.Store.room self.new.below) (cost_below (values_of self.old.readings) (S.Store.cost self.old.below)) handle elem result }
         ensures readings { self.new.readings ≡ self.old.readings }
@@ -64,6 +66,7 @@ impl<S: BareStore + Store<Elem = Value>> ReadingsLayer<S> {
     }
 
     /// Looks into the list below, and then among the readings behind it.
+    #[inline]
     fn look_behind(&self, handle: u32, index: u32) -> Result<Value, StoreFault>
         ensures { Looked (behind (values_of self.now.readings) (S.Store.lists self.now.below)) handle index result }
     {
@@ -103,14 +106,17 @@ impl<S: BareStore + Store<Elem = Value>> Store for ReadingsLayer<S> {
         self.below.clear();
     }
 
+    #[inline]
     fn extend(&mut self, handle: u32, elem: Value) -> Result<u32, StoreFault> {
         self.extend_below(handle, elem)
     }
 
+    #[inline]
     fn look(&self, handle: u32, index: u32) -> Result<Value, StoreFault> {
         self.look_behind(handle, index)
     }
 
+    #[inline]
     fn free(&self) -> u32 {
         self.below.free()
     }
