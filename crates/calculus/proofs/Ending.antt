@@ -1,9 +1,9 @@
 -- Every typed rule has a length. Assumes nothing.
-use mathlib.Core.Bool.{Bool, true, false, cond, not, ◌&&◌}
+use mathlib.Core.Bool.{Bool, true, false, not, ◌&&◌}
 use mathlib.Core.List.{List, [], ◌∷◌, map}
 use mathlib.Core.Option.{some}
 use mathlib.Core.Path.{◌≡◌, refl, sym, ◌∙◌, ap, subst}
-use lib.IntN.{ℤ, ◌+ℤ◌}
+use lib.IntN.{ℤ}
 use lib.ListN.{length, replicate}
 use lib.Signed.{le_z}
 use native.Mathlib.Decide.{ℕ_discrete}
@@ -12,8 +12,8 @@ use Prim.Native.Nat.{ℕ, zero, suc, ◌<◌}
 use Rattle.calculus.specs.Term.{Term, number, truth, variable, function, application, let_in, sum, at_most, if_else, numbered}
 use Rattle.calculus.specs.Substitution.{find, or_else, put, put_one, Closed}
 use Rattle.calculus.specs.Types.{Ty, int, bool, ◌⇒◌, unknown, at, Has}
-use Rattle.calculus.specs.Step.{Next, rests, beyond, to, first, right_left, step, apply, add, compare, choose}
-use Rattle.calculus.specs.Range.{in_range}
+use Rattle.calculus.specs.Step.{Next, rests, beyond, to, first, right_left, step, apply, added, add, compare, choose}
+use Rattle.calculus.specs.Range.{Sum, within, out_of_range, sum_of}
 use Rattle.calculus.specs.Stages.{after, stage}
 use Rattle.calculus.specs.Values.{number_of, truth_of, body_of}
 use Rattle.calculus.specs.Length.{over, ends, Length}
@@ -92,15 +92,14 @@ runs_apply n p τ f v e h (m, b, q, c, r) =
     subst (λ x. Runs (Sem τ) (application n x v)) (sym q)
     (goes (ap (λ x. right_left (application n) (function m b) v rests x (to (put_one v b))) e) (r v h))
 
-runs_add : (n : ℕ) (τ : Ty) (i j : ℤ) → τ ≡ int → (b : Bool) → in_range (i +ℤ j) ≡ b → Runs (Sem τ) (sum n (number i) (number j))
-runs_add n τ i j e true q =
-    goes (ap (λ x. cond x (to (number (i +ℤ j))) (beyond n)) q) (done refl (subst (λ x. Sem x (number (i +ℤ j))) (sym e) (i +ℤ j, refl)))
-runs_add n τ i j e false q = leaves n (ap (λ x. cond x (to (number (i +ℤ j))) (beyond n)) q)
+runs_add : (n : ℕ) (τ : Ty) (i j : ℤ) → τ ≡ int → (s : Sum) → sum_of i j ≡ s → Runs (Sem τ) (sum n (number i) (number j))
+runs_add n τ i j e (within k) q = goes (ap (λ x. added n x) q) (done refl (subst (λ x. Sem x (number k)) (sym e) (k, refl)))
+runs_add n τ i j e out_of_range q = leaves n (ap (λ x. added n x) q)
 
 runs_sum : (n : ℕ) (τ : Ty) (l r : Term) → τ ≡ int → Sem int l → Sem int r → Runs (Sem τ) (sum n l r)
 runs_sum n τ l r e (i, p) (j, q) =
     subst (λ x. Runs (Sem τ) (sum n x r)) (sym p)
-    (subst (λ x. Runs (Sem τ) (sum n (number i) x)) (sym q) (runs_add n τ i j e (in_range (i +ℤ j)) refl))
+    (subst (λ x. Runs (Sem τ) (sum n (number i) x)) (sym q) (runs_add n τ i j e (sum_of i j) refl))
 
 runs_compare : (n : ℕ) (τ : Ty) (l r : Term) → τ ≡ bool → Sem int l → Sem int r → Runs (Sem τ) (at_most n l r)
 runs_compare n τ l r e (i, p) (j, q) =

@@ -1,15 +1,17 @@
 -- A step is what the rules say. Assumes nothing.
-use mathlib.Core.Bool.{Bool, true, false, cond}
+use mathlib.Core.Bool.{true, false}
 use mathlib.Core.Option.{Option, none, some}
 use mathlib.Core.Path.{◌≡◌, refl, sym, ◌∙◌, ap, subst}
-use lib.IntN.{ℤ, ◌+ℤ◌}
+use lib.IntN.{ℤ}
 use native.Mathlib.Omega.{arith}
 use Prim.Native.Nat.{ℕ}
 use Rattle.calculus.specs.Term.{Term, number, truth, variable, function, application, let_in, sum, at_most, if_else}
 use Rattle.calculus.specs.Values.{is_value}
 use Rattle.calculus.specs.Substitution.{put_one}
-use Rattle.calculus.specs.Step.{Next, rests, beyond, stuck, to, first, right_left, step, apply, add, compare, choose}
-use Rattle.calculus.specs.Range.{in_range}
+use Rattle.calculus.specs.Step.{Next, rests, beyond, stuck, to, first, right_left, step, apply, added, add, compare, choose}
+use Rattle.calculus.specs.Length.{ends}
+use Rattle.calculus.specs.Stuck.{IsStuck}
+use Rattle.calculus.specs.Range.{Sum, within, out_of_range, sum_of}
 use Rattle.calculus.specs.Values.{number_of, truth_of, body_of}
 use Rattle.calculus.specs.Rules.{◌⟶◌, apply_function, argument, applied, let_value, bound, sum_numbers, sum_right, sum_left, compare_numbers, compare_right, compare_left, if_true, if_false, condition, Leaves, sum_out, in_argument, in_applied, in_bound, in_sum_right, in_sum_left, in_compare_right, in_compare_left, in_condition}
 use Rattle.calculus.specs.Laws.{Determined}
@@ -42,7 +44,7 @@ rule_step (applied {n} {f} {f'} {v} e r) =
     ap (λ x. right_left (application n) f v (step f) x (apply (body_of f) v)) p ∙ ap (λ x. first x (λ y. application n y v) (apply (body_of f) v)) q
 rule_step (let_value {n} {v} {b} e) = ap (λ x. first x (λ y. let_in n y b) (to (put_one v b))) (value_rests v e)
 rule_step (bound {n} {e} {e'} {b} r) = ap (λ x. first x (λ y. let_in n y b) (to (put_one e b))) (rule_step r)
-rule_step (sum_numbers {n} {i} {j} e) = ap (λ x. cond x (to (number (i +ℤ j))) (beyond n)) e
+rule_step (sum_numbers {n} e) = ap (λ x. added n x) e
 rule_step (sum_right {n} {l} {r} s) = ap (λ x. right_left (sum n) l r (step l) x (add n (number_of l) (number_of r))) (rule_step s)
 rule_step (sum_left {n} {l} {l'} {v} e s) =
     ap (λ x. right_left (sum n) l v (step l) x (add n (number_of l) (number_of v))) (value_rests v e) ∙
@@ -57,7 +59,7 @@ rule_step if_false = refl
 rule_step (condition {n} {c} {c'} {t} {e} r) = ap (λ x. first x (λ y. if_else n y t e) (choose (truth_of c) t e)) (rule_step r)
 
 pub leaves_step : {t : Term} {m : ℕ} → Leaves t m → step t ≡ beyond m
-leaves_step (sum_out {n} {i} {j} e) = ap (λ x. cond x (to (number (i +ℤ j))) (beyond n)) e
+leaves_step (sum_out {n} e) = ap (λ x. added n x) e
 leaves_step (in_argument {n} {m} {f} {a} r) = ap (λ x. right_left (application n) f a (step f) x (apply (body_of f) a)) (leaves_step r)
 leaves_step (in_applied {n} {m} {f} {v} e r) =
     ap (λ x. right_left (application n) f v (step f) x (apply (body_of f) v)) (value_rests v e) ∙
@@ -117,14 +119,14 @@ number_view (sum m l r) = no_number
 number_view (at_most m l r) = no_number
 number_view (if_else m c t x) = no_number
 
-add_in_range : (n : ℕ) (i j : ℤ) (b : Bool) → in_range (i +ℤ j) ≡ b → Allowed (sum n (number i) (number j)) (cond b (to (number (i +ℤ j))) (beyond n))
-add_in_range n i j true e = sum_numbers e
-add_in_range n i j false e = sum_out e
+added_allowed : (n : ℕ) (i j : ℤ) (s : Sum) → sum_of i j ≡ s → Allowed (sum n (number i) (number j)) (added n s)
+added_allowed n i j (within k) e = sum_numbers e
+added_allowed n i j out_of_range e = sum_out e
 
 add_allowed : (n : ℕ) (l r : Term) {x y : Option ℤ} → Number l x → Number r y → Allowed (sum n l r) (add n x y)
 add_allowed n l r (a_number i e) (a_number j f) =
     subst (λ w. Allowed (sum n w r) (add n (some i) (some j))) (sym e)
-    (subst (λ w. Allowed (sum n (number i) w) (add n (some i) (some j))) (sym f) (add_in_range n i j (in_range (i +ℤ j)) refl))
+    (subst (λ w. Allowed (sum n (number i) w) (add n (some i) (some j))) (sym f) (added_allowed n i j (sum_of i j) refl))
 add_allowed n l r (a_number i e) no_number = tt
 add_allowed n l r no_number y = tt
 
@@ -178,11 +180,26 @@ step_rule t u e = subst (λ x. Allowed t x) e (step_allowed t)
 to_injective : (t u v : Term) → step t ≡ to u → step t ≡ to v → u ≡ v
 to_injective t u v p q = cc
 
+-- nothing is next exactly where a term is stuck
+
+stuck_by : (t : Term) (next : Next) → step t ≡ next → ends next ≡ false → ((u : Term) → ¬ (t ⟶ u)) → next ≡ stuck
+stuck_by t rests e ends_not no_rule = let z : ◌≡◌ {A = ℕ} 0 1 = cc in absurd (omega arith)
+stuck_by t (beyond n) e ends_not no_rule = let z : ◌≡◌ {A = ℕ} 0 1 = cc in absurd (omega arith)
+stuck_by t stuck e ends_not no_rule = refl
+stuck_by t (to u) e ends_not no_rule = absurd (no_rule u (step_rule t u e))
+
+pub stuck_next : (t : Term) → IsStuck t → step t ≡ stuck
+stuck_next t s = stuck_by t (step t) refl s.0 s.1
+
+next_stuck : (t : Term) → step t ≡ stuck → IsStuck t
+next_stuck t e = (ap ends e, λ u r. let f : to u ≡ stuck = sym (rule_step r) ∙ e in let z : ◌≡◌ {A = ℕ} 0 1 = cc in omega arith)
+
 pub determined : Determined
 determined =
     record {
       reduces = λ t u. (rule_step, step_rule t u);
       leaves = λ t n. (leaves_step, (λ e. subst (λ x. Allowed t x) e (step_allowed t)));
       at_rest = λ t. (value_rests t, (λ e. subst (λ x. Allowed t x) e (step_allowed t)));
+      no_way = λ t. (stuck_next t, next_stuck t);
       one_way = λ t u v p q. to_injective t u v (rule_step p) (rule_step q);
     }

@@ -1,21 +1,23 @@
 -- A typed rule is never stuck, a step keeps its types, and a value belongs to them. Assumes nothing.
-use mathlib.Core.Bool.{Bool, true, false, cond}
-use mathlib.Core.List.{[], ◌∷◌}
+use mathlib.Core.Bool.{Bool, true, false}
+use mathlib.Core.List.{List, [], ◌∷◌}
 use mathlib.Core.Option.{some}
 use mathlib.Core.Path.{◌≡◌, refl, sym, subst}
-use lib.IntN.{ℤ, ◌+ℤ◌}
+use lib.IntN.{ℤ}
+use lib.ListN.{length}
 use native.Mathlib.Omega.{arith}
 use Prim.Native.Nat.{ℕ, zero, suc}
+use Rattle.syntax.specs.Tree.{Tree}
 use Rattle.calculus.specs.Term.{Term, number, truth, variable, function, application, let_in, sum, at_most, if_else}
 use Rattle.calculus.specs.Substitution.{put_one}
-use Rattle.calculus.specs.Types.{Ty, int, bool, ◌⇒◌, Has, Belongs}
-use Rattle.calculus.specs.Step.{Next, rests, beyond, stuck, to, first, step, apply, add, compare, choose}
-use Rattle.calculus.specs.Range.{in_range}
+use Rattle.calculus.specs.Types.{Ty, int, bool, ◌⇒◌, Has, Belongs, RuleHas}
+use Rattle.calculus.specs.Step.{Next, rests, beyond, stuck, to, first, step, apply, added, add, compare, choose}
+use Rattle.calculus.specs.Range.{Sum, within, out_of_range, sum_of}
 use Rattle.calculus.specs.Stages.{after, stage, start}
 use Rattle.calculus.specs.Values.{number_of, truth_of, body_of}
 use Rattle.calculus.specs.Laws.{NeverStuck, KeepsTypes, ValueBelongs}
 use Rattle.calculus.proofs.Typing.{put_one_has, start_has}
-use Rattle.calculus.proofs.Reduction.{rule_step}
+use Rattle.calculus.proofs.Reduction.{rule_step, stuck_next}
 
 -- values by their types
 
@@ -73,11 +75,11 @@ apply_good n (if_else m c t x) v p τ h i b = absurd b
 add_good : (n : ℕ) (l r : Term) (τ : Ty) → τ ≡ int → (i : ℤ) × (l ≡ number i) → (j : ℤ) × (r ≡ number j) → Good (sum n l r) τ (add n (number_of l) (number_of r))
 add_good n l r τ e (i, p) (j, q) =
     subst (λ x. Good (sum n l r) τ (add n (number_of x) (number_of r))) (sym p)
-    (subst (λ x. Good (sum n l r) τ (add n (some i) (number_of x))) (sym q) (in_or_out (in_range (i +ℤ j))))
+    (subst (λ x. Good (sum n l r) τ (add n (some i) (number_of x))) (sym q) (in_or_out (sum_of i j)))
   where
-    in_or_out : (b : Bool) → Good (sum n l r) τ (cond b (to (number (i +ℤ j))) (beyond n))
-    in_or_out true = e
-    in_or_out false = tt
+    in_or_out : (s : Sum) → Good (sum n l r) τ (added n s)
+    in_or_out (within k) = e
+    in_or_out out_of_range = tt
 
 compare_good : (n : ℕ) (l r : Term) (τ : Ty) → τ ≡ bool → (i : ℤ) × (l ≡ number i) → (j : ℤ) × (r ≡ number j) → Good (at_most n l r) τ (compare (number_of l) (number_of r))
 compare_good n l r τ e (i, p) (j, q) =
@@ -131,9 +133,13 @@ stage_has (suc n) t τ h =
 
 -- the laws
 
-pub never_stuck : NeverStuck
-never_stuck t τ readings h n e =
+pub never_stuck_next : (t : Tree) (τ : Ty) (readings : List ℤ) → RuleHas (length readings) t τ → (n : ℕ) →
+    ¬ (step (stage n (start readings t)) ≡ stuck)
+never_stuck_next t τ readings h n e =
     subst (λ x. Good (stage n (start readings t)) τ x) e (step_good (stage n (start readings t)) τ (stage_has n (start readings t) τ (start_has t τ readings h)))
+
+pub never_stuck : NeverStuck
+never_stuck t τ readings h n s = never_stuck_next t τ readings h n (stuck_next (stage n (start readings t)) s)
 
 pub keeps_types : KeepsTypes
 keeps_types =

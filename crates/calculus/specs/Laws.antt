@@ -11,10 +11,11 @@ use Rattle.calculus.specs.Rules.{◌⟶◌, Leaves}
 use Rattle.calculus.specs.Step.{rests, beyond, stuck, to, step}
 use Rattle.calculus.specs.Stages.{start, stage}
 use Rattle.calculus.specs.Length.{Length}
+use Rattle.calculus.specs.Stuck.{IsStuck}
 
 -- no stage of a typed rule is stuck, whatever is read
 abbrev pub NeverStuck : Type 0
-NeverStuck = (t : Tree) (τ : Ty) (readings : List ℤ) → RuleHas (length readings) t τ → (n : ℕ) → ¬ (step (stage n (start readings t)) ≡ stuck)
+NeverStuck = (t : Tree) (τ : Ty) (readings : List ℤ) → RuleHas (length readings) t τ → (n : ℕ) → ¬ IsStuck (stage n (start readings t))
 
 -- in a typed rule all variables are bound: each distance is below the binders around it and the readings
 abbrev pub TypedIsClosed : Type 0
@@ -44,6 +45,7 @@ pub record Determined : Type 0 where
   pub reduces : (t u : Term) → (t ⟶ u) ↔ (step t ≡ to u)
   pub leaves : (t : Term) (n : ℕ) → Leaves t n ↔ (step t ≡ beyond n)
   pub at_rest : (t : Term) → (is_value t ≡ true) ↔ (step t ≡ rests)
+  pub no_way : (t : Term) → IsStuck t ↔ (step t ≡ stuck)
   pub one_way : (t u v : Term) → t ⟶ u → t ⟶ v → u ≡ v
 
 -- A rule has a type exactly when its nodes can be given types that meet all conditions, with this type at node 0.

@@ -7,7 +7,9 @@ pub mod General
 pub mod Range
 pub mod Rules
 pub mod Step
+pub mod Open
 pub mod Stages
 pub mod Length
+pub mod Stuck
 pub mod Laws
 pub mod Figures

@@ -1,10 +1,10 @@
 -- The reductions as rules. Assumes nothing.
-use Rattle.std.specs.Prelude.{true, false, ◌≡◌, ℤ, ◌+ℤ◌, ℕ}
+use Rattle.std.specs.Prelude.{true, false, ◌≡◌, ℤ, ℕ}
 use Rattle.std.specs.Int.Signed.{le_z}
 use Rattle.calculus.specs.Term.{Term, number, truth, function, application, let_in, sum, at_most, if_else}
 use Rattle.calculus.specs.Values.{is_value}
 use Rattle.calculus.specs.Substitution.{put_one}
-use Rattle.calculus.specs.Range.{in_range}
+use Rattle.calculus.specs.Range.{within, out_of_range, sum_of}
 
 infix 3 ◌⟶◌
 -- One reduction. A rule that works on a left child asks for a value on the right.
@@ -19,8 +19,8 @@ pub data ◌⟶◌ : Term → Term → Type 0 where
   let_value : {n : ℕ} {v b : Term} → is_value v ≡ true → let_in n v b ⟶ put_one v b
   --   e ⟶ e'  gives  let x = e in b ⟶ let x = e' in b
   bound : {n : ℕ} {e e' b : Term} → e ⟶ e' → let_in n e b ⟶ let_in n e' b
-  --   i + j ⟶ k  with k = i + j, in range
-  sum_numbers : {n : ℕ} {i j : ℤ} → in_range (i +ℤ j) ≡ true → sum n (number i) (number j) ⟶ number (i +ℤ j)
+  --   i + j ⟶ k  with k their sum, within the range
+  sum_numbers : {n : ℕ} {i j k : ℤ} → sum_of i j ≡ within k → sum n (number i) (number j) ⟶ number k
   --   r ⟶ r'  gives  l + r ⟶ l + r'
   sum_right : {n : ℕ} {l r r' : Term} → r ⟶ r' → sum n l r ⟶ sum n l r'
   --   l ⟶ l'  gives  l + v ⟶ l' + v
@@ -39,8 +39,8 @@ pub data ◌⟶◌ : Term → Term → Type 0 where
 
 -- The sum at node n is next, and it leaves the number range: found by the same order as the next reduction.
 pub data Leaves : Term → ℕ → Type 0 where
-  --   i + j  with i + j out of range
-  sum_out : {n : ℕ} {i j : ℤ} → in_range (i +ℤ j) ≡ false → Leaves (sum n (number i) (number j)) n
+  --   i + j  with their sum out of range
+  sum_out : {n : ℕ} {i j : ℤ} → sum_of i j ≡ out_of_range → Leaves (sum n (number i) (number j)) n
   --   in a of f a, in f of f v, in e of let x = e in b
   in_argument : {n m : ℕ} {f a : Term} → Leaves a m → Leaves (application n f a) m
   in_applied : {n m : ℕ} {f v : Term} → is_value v ≡ true → Leaves f m → Leaves (application n f v) m

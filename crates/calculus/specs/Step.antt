@@ -1,11 +1,11 @@
 -- What comes next for a term, computed. Assumes nothing.
-use Rattle.std.specs.Prelude.{Bool, true, false, cond, ℤ, ◌+ℤ◌, ℕ}
+use Rattle.std.specs.Prelude.{Bool, true, false, ℤ, ℕ}
 use Rattle.std.proofs.Math.Option.{Option, none, some}
 use Rattle.std.specs.Int.Signed.{le_z}
 use Rattle.calculus.specs.Term.{Term, number, truth, variable, function, application, let_in, sum, at_most, if_else}
 use Rattle.calculus.specs.Values.{number_of, truth_of, body_of}
 use Rattle.calculus.specs.Substitution.{put_one}
-use Rattle.calculus.specs.Range.{in_range}
+use Rattle.calculus.specs.Range.{Sum, within, out_of_range, sum_of}
 
 -- what comes next for a term
 pub data Next : Type 0 where
@@ -35,11 +35,15 @@ abbrev pub apply : Option Term → Term → Next
 apply none v = stuck
 apply (some b) v = to (put_one v b)
 
---   i + j  ⟶  k      with k = i + j, in range
+--   i + j  ⟶  k      with k their sum, within the range
+abbrev pub added : ℕ → Sum → Next
+added n (within k) = to (number k)
+added n out_of_range = beyond n
+
 abbrev pub add : ℕ → Option ℤ → Option ℤ → Next
 add n none j = stuck
 add n (some i) none = stuck
-add n (some i) (some j) = cond (in_range (i +ℤ j)) (to (number (i +ℤ j))) (beyond n)
+add n (some i) (some j) = added n (sum_of i j)
 
 --   i <= j  ⟶  true or false
 abbrev pub compare : Option ℤ → Option ℤ → Next

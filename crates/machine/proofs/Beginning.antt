@@ -13,7 +13,6 @@ use Rattle.reckoning.proofs.Reckoning.{follows_stages}
 use Rattle.machine.specs.declared.operations.Operations.{Operations}
 use Rattle.machine.specs.declared.steps.Machine.{Machine}
 use Rattle.machine.specs.Places.{At}
-use Rattle.machine.specs.Handles.{IsListOf}
 use Rattle.machine.specs.Opens.{Stacked, weighed}
 use Rattle.machine.specs.Standing.{Meets}
 use Rattle.machine.specs.Reducing.{room_of}

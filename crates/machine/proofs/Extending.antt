@@ -54,7 +54,7 @@ module _ (ns : List Node) (lists lists' : Lists Value) (whole : ℕ) (cost : ℕ
       move w ≡ makes n (v before env) (plugged (top ns lists table op x w t).rest (met b (v before env))) →
       (result : Reduced) → Extends lists lists' free free' cost l y n place table table' result → Reduces ns (room_of whole cost) lists lists' free free' table' result w
   entered op x w t l y v env b n place all stands at e (reduced.Found z) s = absurd s
-  entered op x w t l y v env b n place all stands at e (reduced.Range m) s = absurd s
+  entered op x w t l y v env b n place all stands at e (reduced.Range m out) s = absurd s
   entered op x w t l y v env b n place all stands at e (reduced.NoStore m) s =
       let dear : free < cost (size env) = subst (λ i. free < cost i) (all_length ns lists l env all) s.1 in
       (v before env, plugged (top ns lists table op x w t).rest (met b (v before env)), e ∙ ap (λ i. makes i (v before env) (plugged (top ns lists table op x w t).rest (met b (v before env)))) (sym s.0), dear, s.2, s.3)

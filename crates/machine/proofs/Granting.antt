@@ -1,5 +1,5 @@
 -- One granted step, on plain lists and in the store. Assumes nothing.
-use Rattle.std.proofs.Common.{◌≡◌, ◌≢◌, ℕ, zero, suc, ◌+◌, ◌-◌, ◌<◌, ◌≤◌, inl, inr, Bool, true, false, List, [], ◌∷◌, Some, refl, sym, ap, ◌∙◌, subst, arith}
+use Rattle.std.proofs.Common.{◌≡◌, ◌≢◌, ℕ, suc, ◌+◌, ◌<◌, ◌≤◌, inl, inr, Bool, true, false, List, [], ◌∷◌, Some, refl, sym, ap, ◌∙◌, subst, arith}
 use Rattle.std.proofs.Math.Option.{Option, none, some}
 use Rattle.syntax.specs.declared.node.Node.{Node}
 use Rattle.store.specs.Lists.{Lists, Same}
@@ -10,7 +10,7 @@ use Rattle.reckoning.specs.Work.{Work}
 use Rattle.reckoning.specs.Moves.{Move, rests, beyond, stuck, plain, makes, move}
 use Rattle.reckoning.specs.Open.{one_too_many}
 use Rattle.reckoning.specs.Room.{Room, price, free}
-use Rattle.reckoning.specs.Reckoning.{Reckoned, State, waiting, over, no_store, no_stack, shortage, ahead, state, extends, reduces, if_waiting, granted, steps}
+use Rattle.reckoning.specs.Reckoning.{Reckoned, State, waiting, over, shortage, ahead, state, extends, reduces, if_waiting, granted, steps}
 use Rattle.machine.specs.declared.steps.Machine.{Machine}
 use Rattle.machine.specs.declared.steps.State.TheVariants as told
 use Rattle.machine.specs.declared.steps.State as told_state
@@ -18,6 +18,7 @@ use Rattle.machine.specs.Handles.{Among, OwnLists, Root, Owned}
 use Rattle.machine.specs.Reducing.{room_of, MakesList, Moved}
 use Rattle.machine.specs.Standing.{Readied}
 use Rattle.machine.specs.Running.{state_of, Rests, StandsAt, NeverStuck}
+use Rattle.reckoning.proofs.Steps.{steps_add_up, stays}
 use Rattle.machine.proofs.Ranges.{leb_yes, leb_no}
 use Rattle.machine.proofs.Keeping.{Kept, same_kept, others_kept, list_kept}
 
@@ -136,27 +137,8 @@ module _ (ns : List Node) (lists lists' : Lists Value) (r : Room) (left left' : 
 
 -- several granted steps
 
-if_waiting_not : (st : State) (x y : Reckoned) → ¬ (st ≡ waiting) → if_waiting st x y ≡ y
-if_waiting_not waiting x y h = absurd (h refl)
-if_waiting_not (over a) x y h = refl
-if_waiting_not (no_store n) x y h = refl
-if_waiting_not (no_stack n) x y h = refl
-
-stays_for : (r : Room) (s : Reckoned) (k : ℕ) → ¬ (state s ≡ waiting) → steps r k s ≡ s
-stays_for r s zero h = refl
-stays_for r s (suc k) h = ap (λ y. granted r y) (stays_for r s k h) ∙ if_waiting_not (state s) (reduces r s (move s.work)) s h
-
-pub steps_steps : (r : Room) (s : Reckoned) (k n : ℕ) → steps r k (steps r n s) ≡ steps r (k + n) s
-steps_steps r s zero n = let e : 0 + n ≡ n = omega arith in sym (ap (λ m. steps r m s) e)
-steps_steps r s (suc k) n = let e : suc k + n ≡ suc (k + n) = omega arith in ap (λ y. granted r y) (steps_steps r s k n) ∙ sym (ap (λ m. steps r m s) e)
-
-pub stays : (r : Room) (s : Reckoned) (n m : ℕ) → n ≤ m → ¬ (state (steps r n s) ≡ waiting) → steps r m s ≡ steps r n s
-stays r s n m h not =
-    let e : m ≡ (m - n) + n = omega arith in
-    ap (λ y. steps r y s) e ∙ sym (steps_steps r s (m - n) n) ∙ stays_for r (steps r n s) (m - n) not
-
 pub never_stuck_on : (r : Room) (s : Reckoned) (n : ℕ) → NeverStuck r s → NeverStuck r (steps r n s)
-never_stuck_on r s n h k e = h (k + n) (ap (λ y. move y.work) (sym (steps_steps r s k n)) ∙ e)
+never_stuck_on r s n h k e = h (k + n) (ap (λ y. move y.work) (sym (steps_add_up r s k n)) ∙ e)
 
 module _ (ns : List Node) (lists lists' : Lists Value) (r : Room) (left left' : ℕ) (root : Root) where
   pub granted_goes : (s : Reckoned) (u : Work) → state s ≡ waiting → left ≡ free r s.made → Owned ns lists root s.made → Moved ns r lists lists' left left' (move s.work) u →
@@ -172,7 +154,7 @@ room_same whole whole' cost cost' e f = ap (λ x. room_of x cost) e ∙ ap (λ y
 waiting_told : (st : told_state.State) → state_of st ≡ waiting → st ≡ told.Waiting
 waiting_told told.Waiting e = refl
 waiting_told (told.Done x) e = let z : ◌≡◌ {A = ℕ} 0 1 = cc in absurd (omega arith)
-waiting_told (told.Range n) e = let z : ◌≡◌ {A = ℕ} 0 1 = cc in absurd (omega arith)
+waiting_told (told.Range n out) e = let z : ◌≡◌ {A = ℕ} 0 1 = cc in absurd (omega arith)
 waiting_told (told.NoStore n) e = let z : ◌≡◌ {A = ℕ} 0 1 = cc in absurd (omega arith)
 waiting_told (told.NoStack n) e = let z : ◌≡◌ {A = ℕ} 0 1 = cc in absurd (omega arith)
 
@@ -180,4 +162,4 @@ waiting_told (told.NoStack n) e = let z : ◌≡◌ {A = ℕ} 0 1 = cc in absurd
 pub stopped : (ns : List Node) (lists : Lists Value) (r : Room) (left : ℕ) (root : Root) (run : Machine) (s : Reckoned) (n m : ℕ) → n ≤ m → (run.state ≡ told.Waiting → ⊥) →
     StandsAt ns lists r left root run (steps r n s) → StandsAt ns lists r left root run (steps r m s)
 stopped ns lists r left root run s n m h not t =
-    subst (λ y. StandsAt ns lists r left root run y) (sym (stays r s n m h (λ e. not (waiting_told run.state (t.in_state ∙ e))))) t
+    subst (λ y. StandsAt ns lists r left root run y) (sym (stays r s m n h (λ e. not (waiting_told run.state (t.in_state ∙ e))))) t

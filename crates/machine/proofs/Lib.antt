@@ -10,4 +10,3 @@ pub mod Extending
 pub mod Telling
 pub mod Granting
 pub mod Beginning
-pub mod Fitting

@@ -1,5 +1,5 @@
 -- The innermost operation is reduced. Assumes nothing.
-use Rattle.std.proofs.Common.{◌≡◌, ℕ, ◌+◌, ◌-◌, Bool, true, false, cond, List, ℤ, ◌+ℤ◌, refl, sym, ap, ◌∙◌, subst, arith}
+use Rattle.std.proofs.Common.{◌≡◌, ℕ, ◌+◌, ◌-◌, Bool, true, false, List, ℤ, refl, sym, ap, ◌∙◌, subst, arith}
 use Rattle.std.specs.Int.Signed.{le_z}
 use Rattle.syntax.specs.Tree.{nodes}
 use Rattle.syntax.specs.declared.node.Node.{Node}
@@ -7,11 +7,12 @@ use Rattle.store.specs.Lists.{Lists}
 use Rattle.values.specs.declared.Value.{Value}
 use Rattle.values.specs.declared.Value.TheVariants.{Number, Truth, Function}
 use Rattle.calculus.specs.Term.{Term}
-use Rattle.calculus.specs.Range.{in_range}
+use Rattle.calculus.specs.Range.{Sum, sum_of}
+use Rattle.arithmetic.specs.declared.OutOfRange.{OutOfRange}
 use Rattle.reckoning.specs.Environments.{Env, ◌before◌, size}
 use Rattle.reckoning.specs.Environments as plain
 use Rattle.reckoning.specs.Work.{Work, done, met}
-use Rattle.reckoning.specs.Moves.{Move, rests, beyond, stuck, plain, makes, move}
+use Rattle.reckoning.specs.Moves.{Move, rests, beyond, stuck, plain, makes, added, move}
 use Rattle.reckoning.specs.Contexts.{Open, applied, sum_left, compare_left, condition, inside, plugged, within}
 use Rattle.reckoning.specs.Room.{Room}
 use Rattle.reckoning.proofs.Contexts.{moves_inside}
@@ -182,34 +183,35 @@ module _ (ns : List Node) (lists : Lists Value) (r : Room) (free : ℕ) (table :
       (sum_right_stuck ns lists n i y o.0 not o.2) not_stuck
 
   pub sum_moves : (n : ℕ) (i j : ℤ) (w : Work) (t : OnTop ns lists table (SumLeft n (Number j)) (Number i) w) (m : Move) →
-      cond (in_range (i +ℤ j)) (plain (done (plain.number (i +ℤ j)))) (beyond n) ≡ m → ¬ (m ≡ rests) →
+      added n (sum_of i j) ≡ m → ¬ (m ≡ rests) →
       move w ≡ within (plugged (top ns lists table (SumLeft n (Number j)) (Number i) w t).rest) m
   sum_moves n i j w t m e not =
       let o = here ns lists table (SumLeft n (Number j)) (Number i) w t in
       moved ns lists table (SumLeft n (Number j)) (Number i) w t (sum_left n (plain.number j)) (plain.number i) m
       (o.1 ∙ ap (λ y. sum_left n y) (is_number ns lists j o.0 o.2)) (is_number ns lists i t.found.value t.found.stands) e not
 
-  pub added : (table' : Operations) (n : ℕ) (i j : ℤ) (w : Work) → in_range (i +ℤ j) ≡ true → OnTop ns lists table (SumLeft n (Number j)) (Number i) w → Popped table table' →
-      Reduces ns r lists lists free free table' (reduced.Found (Number (i +ℤ j))) w
-  added table' n i j w inside_range t p =
+  pub sum_found : (table' : Operations) (n : ℕ) (i j k : ℤ) (w : Work) → sum_of i j ≡ Sum.within k → OnTop ns lists table (SumLeft n (Number j)) (Number i) w → Popped table table' →
+      Reduces ns r lists lists free free table' (reduced.Found (Number k)) w
+  sum_found table' n i j k w e t p =
       let rest = (top ns lists table (SumLeft n (Number j)) (Number i) w t).rest in
-      let u = plugged rest (done (plain.number (i +ℤ j))) in
-      let e : move w ≡ plain u = sum_moves n i j w t (plain (done (plain.number (i +ℤ j)))) (ap (λ b. cond b (plain (done (plain.number (i +ℤ j)))) (beyond n)) inside_range) (not_plain _) in (
+      let u = plugged rest (done (plain.number k)) in
+      let to_u : move w ≡ plain u = sum_moves n i j w t (plain (done (plain.number k))) (ap (λ x. added n x) e) (not_plain _) in (
         u,
-        subst (λ m. Moved ns r lists lists free free m u) (sym e) (refl, λ h. refl, refl),
+        subst (λ m. Moved ns r lists lists free free m u) (sym to_u) (refl, λ h. refl, refl),
         record {
           opens = rest;
-          value = plain.number (i +ℤ j);
+          value = plain.number k;
           stacked = stacked_popped ns lists table (SumLeft n (Number j)) (Number i) w t table' p;
           stands = refl;
           whole = refl;
         },
       )
 
-  pub out_of_range : (table' : Operations) (n : ℕ) (i j : ℤ) (w : Work) → in_range (i +ℤ j) ≡ false → OnTop ns lists table (SumLeft n (Number j)) (Number i) w →
-      Reduces ns r lists lists free free table' (reduced.Range n) w
-  out_of_range table' n i j w outside t =
-      (sum_moves n i j w t (beyond n) (ap (λ b. cond b (plain (done (plain.number (i +ℤ j)))) (beyond n)) outside) (not_beyond n), λ h. refl, refl)
+  pub sum_leaves : (table' : Operations) (n : ℕ) (out : OutOfRange) (i j : ℤ) (w : Work) → sum_of i j ≡ Sum.out_of_range →
+      OnTop ns lists table (SumLeft n (Number j)) (Number i) w →
+      Reduces ns r lists lists free free table' (reduced.Range n out) w
+  sum_leaves table' n out i j w e t =
+      (sum_moves n i j w t (beyond n) (ap (λ x. added n x) e) (not_beyond n), λ h. refl, refl)
 
   -- choosing
   pub nothing_chosen : (n p q h : ℕ) (x : Value) (w : Work) → NotTruth x → OnTop ns lists table (Condition n p q h) x w → move w ≡ stuck

@@ -1,18 +1,18 @@
 -- What is told of a work whose next reduction is known. Assumes nothing.
-use Rattle.std.proofs.Common.{◌≡◌, ℕ, zero, suc, ◌-◌, ◌≤◌, Bool, true, false, cond, List, [], ◌∷◌, length, ℤ, ◌+ℤ◌, refl, sym, ap, ◌∙◌, subst, arith}
+use Rattle.std.proofs.Common.{◌≡◌, ℕ, zero, suc, ◌-◌, ◌≤◌, Bool, true, false, List, [], ◌∷◌, length, ℤ, refl, sym, ap, ◌∙◌, subst, arith}
 use Rattle.std.proofs.Math.Option.{none, some}
 use Rattle.syntax.specs.declared.node.Node.{Node}
 use Rattle.store.specs.Lists.{Lists}
 use Rattle.values.specs.declared.Value.{Value}
 use Rattle.values.specs.declared.Value.TheVariants.{Number, Truth, Function}
 use Rattle.calculus.specs.Term.{Term}
-use Rattle.calculus.specs.Range.{in_range}
+use Rattle.calculus.specs.Range.{Sum, sum_of}
+use Rattle.arithmetic.specs.Sums.{as_result}
 use Rattle.calculus.specs.Length.{Answer}
-use Rattle.machine.specs.declared.steps.State.TheVariants.{Waiting, Range}
 use Rattle.reckoning.specs.Environments.{Env}
 use Rattle.reckoning.specs.Environments as plain
 use Rattle.reckoning.specs.Work.{Work, done}
-use Rattle.reckoning.specs.Moves.{Move, rests, beyond, stuck, plain, makes, move}
+use Rattle.reckoning.specs.Moves.{Move, rests, beyond, stuck, plain, makes, added, move}
 use Rattle.reckoning.specs.Open.{open_nodes, nth, one_too_many}
 use Rattle.reckoning.specs.Contexts.{Open, applied, bound, compare_left, condition, node_of, inside, plugged, nodes_before, within}
 use Rattle.reckoning.specs.Reckoning.{State, waiting, over, no_stack, shortage, ahead}
@@ -24,7 +24,7 @@ use Rattle.machine.specs.Handles.{StandsFor}
 use Rattle.machine.specs.Opens.{OpenFor, op_at, Stacked, IsReady}
 use Rattle.machine.specs.Standing.{HasFound, Readied}
 use Rattle.machine.specs.Reducing.{OnTop}
-use Rattle.machine.specs.Running.{answer_of, state_of, sum_ahead}
+use Rattle.machine.specs.Running.{answer_of, state_of, tells, sum_ahead}
 use Rattle.machine.proofs.Stacking.{stacked_length}
 use Rattle.machine.proofs.Reductions.{top, here, moved, sum_moves, no_left_added, no_right_added}
 
@@ -89,14 +89,16 @@ module _ (ns : List Node) (lists : Lists Value) (table : Operations) where
       let o = here ns lists table (Condition n p q h) x w t in
       waits_inside (Condition n p q h) x w t (condition n o.0 o.1 o.2) o.3 (condition_waits n o.0 o.1 o.2 t.found.value)
 
-  sum_told_in : (n : ℕ) (i j : ℤ) (w : Work) (b : Bool) → in_range (i +ℤ j) ≡ b → OnTop ns lists table (SumLeft n (Number j)) (Number i) w →
+  sum_told_as : (n : ℕ) (i j : ℤ) (w : Work) (s : Sum) → sum_of i j ≡ s → OnTop ns lists table (SumLeft n (Number j)) (Number i) w →
       ahead w (move w) ≡ state_of (sum_ahead n (Number j) (Number i))
-  sum_told_in n i j w true e t =
-      ap (λ y. ahead w y) (sum_moves ns lists (record { whole = 0; cost = λ k. k }) 0 table n i j w t (plain (done (plain.number (i +ℤ j)))) (ap (λ b. cond b (plain (done (plain.number (i +ℤ j)))) (beyond n)) e)
-      (waits_not_rests _ tt)) ∙ sym (ap (λ b. state_of (cond b Waiting (Range n))) e)
-  sum_told_in n i j w false e t =
-      ap (λ y. ahead w y) (sum_moves ns lists (record { whole = 0; cost = λ k. k }) 0 table n i j w t (beyond n) (ap (λ b. cond b (plain (done (plain.number (i +ℤ j)))) (beyond n)) e)
-      (λ f. let z : ◌≡◌ {A = ℕ} 0 1 = cc in omega arith)) ∙ sym (ap (λ b. state_of (cond b Waiting (Range n))) e)
+  sum_told_as n i j w (Sum.within k) e t =
+      ap (λ y. ahead w y) (sum_moves ns lists (record { whole = 0; cost = λ l. l }) 0 table n i j w t (plain (done (plain.number k)))
+      (ap (λ x. added n x) e)
+      (waits_not_rests _ tt)) ∙ sym (ap (λ x. state_of (tells n (as_result x))) e)
+  sum_told_as n i j w Sum.out_of_range e t =
+      ap (λ y. ahead w y) (sum_moves ns lists (record { whole = 0; cost = λ l. l }) 0 table n i j w t (beyond n)
+      (ap (λ x. added n x) e)
+      (λ f. let z : ◌≡◌ {A = ℕ} 0 1 = cc in omega arith)) ∙ sym (ap (λ x. state_of (tells n (as_result x))) e)
 
   stuck_told : (w : Work) → move w ≡ stuck → ahead w (move w) ≡ waiting
   stuck_told w e = ap (λ y. ahead w y) e
@@ -108,7 +110,7 @@ module _ (ns : List Node) (lists : Lists Value) (table : Operations) where
   not_number_function m h i e = let z : ◌≡◌ {A = ℕ} 0 1 = cc in omega arith
 
   pub sum_told : (n : ℕ) (y x : Value) (w : Work) → OnTop ns lists table (SumLeft n y) x w → state_of (sum_ahead n y x) ≡ ahead w (move w)
-  sum_told n (Number j) (Number i) w t = sym (sum_told_in n i j w (in_range (i +ℤ j)) refl t)
+  sum_told n (Number j) (Number i) w t = sym (sum_told_as n i j w (sum_of i j) refl t)
   sum_told n (Number j) (Truth c) w t = sym (stuck_told w (no_left_added ns lists (record { whole = 0; cost = λ k. k }) 0 table n (Number j) (Truth c) w (not_number_truth c) t))
   sum_told n (Number j) (Function m h) w t = sym (stuck_told w (no_left_added ns lists (record { whole = 0; cost = λ k. k }) 0 table n (Number j) (Function m h) w (not_number_function m h) t))
   sum_told n (Truth b) (Number i) w t = sym (stuck_told w (no_right_added ns lists (record { whole = 0; cost = λ k. k }) 0 table n (Truth b) i w (not_number_truth b) t))

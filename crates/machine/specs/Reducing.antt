@@ -43,7 +43,7 @@ Moved ns r lists lists' free free' (makes n env u) w = (u ≡ w) × MakesList ns
 abbrev pub Reduces : List Node → Room → Lists Value → Lists Value → ℕ → ℕ → Operations → Reduced → Work → Type 0
 Reduces ns r lists lists' free free' table (Found x) w = (u : Work) × Moved ns r lists lists' free free' (move w) u × HasFound ns lists' table x u
 Reduces ns r lists lists' free free' table (Body p h) w = (u : Work) × (k : ℕ) × Moved ns r lists lists' free free' (move w) u × Meets ns lists' table p h u k
-Reduces ns r lists lists' free free' table (Range n) w = (move w ≡ beyond n) × Same lists lists' × (free' ≡ free)
+Reduces ns r lists lists' free free' table (Range n out) w = (move w ≡ beyond n) × Same lists lists' × (free' ≡ free)
 Reduces ns r lists lists' free free' table (NoStore n) w =
     (env : Env) × (u : Work) × (move w ≡ makes n env u) × (free < price r env) × Same lists lists' × (free' ≡ free)
 
@@ -55,6 +55,6 @@ abbrev pub Extends : Lists Value → Lists Value → ℕ → ℕ → (ℕ → �
 Extends lists lists' free free' cost l x node place table table' (Found y) = ⊥
 Extends lists lists' free free' cost l x node place table table' (Body p k) =
     (p ≡ place) × Made lists lists' free free' cost l x k × Popped table table'
-Extends lists lists' free free' cost l x node place table table' (Range n) = ⊥
+Extends lists lists' free free' cost l x node place table table' (Range n out) = ⊥
 Extends lists lists' free free' cost l x node place table table' (NoStore n) =
     (n ≡ node) × (free < cost (length l)) × Same lists lists' × (free' ≡ free)

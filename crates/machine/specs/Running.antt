@@ -1,5 +1,5 @@
 -- Where a run stands. Assumes nothing.
-use Rattle.std.specs.Prelude.{◌≡◌, ◌≢◌, ℕ, ◌≤◌, ℤ, ◌+ℤ◌, cond, List, length, None}
+use Rattle.std.specs.Prelude.{◌≡◌, ◌≢◌, ℕ, ◌≤◌, ℤ, List, length, None, Result, Ok, Err}
 use Rattle.std.proofs.Math.Option.{none}
 use Rattle.syntax.specs.declared.node.Node.{Node}
 use Rattle.syntax.specs.Tree.{Tree, nodes}
@@ -7,7 +7,9 @@ use Rattle.record.specs.Nodes.{Holds}
 use Rattle.store.specs.Lists.{Lists}
 use Rattle.values.specs.declared.Value.{Value}
 use Rattle.values.specs.declared.Value.TheVariants as value
-use Rattle.calculus.specs.Range.{in_range}
+use Rattle.calculus.specs.Range.{sum_of}
+use Rattle.arithmetic.specs.declared.OutOfRange.{OutOfRange}
+use Rattle.arithmetic.specs.Sums.{as_result}
 use Rattle.calculus.specs.Length.{Answer}
 use Rattle.reckoning.specs.Environments.{base}
 use Rattle.reckoning.specs.Work.{Work}
@@ -30,13 +32,18 @@ answer_of (value.Function n h) = Answer.function n
 abbrev pub state_of : State → plain.State
 state_of Waiting = plain.waiting
 state_of (Done x) = plain.over (answer_of x)
-state_of (Range n) = plain.over (Answer.range n)
+state_of (Range n out) = plain.over (Answer.range n)
 state_of (NoStore n) = plain.no_store n
 state_of (NoStack n) = plain.no_stack n
 
--- what is told of the sum that is next, at node n, with the values of its operands
+-- what is told of a sum that is next, at node n
+abbrev pub tells : ℕ → Result ℤ OutOfRange → State
+tells n (Ok k) = Waiting
+tells n (Err out) = Range n out
+
+-- the same, with the values of its operands
 abbrev pub sum_ahead : ℕ → Value → Value → State
-sum_ahead n (value.Number j) (value.Number i) = cond (in_range (i +ℤ j)) Waiting (Range n)
+sum_ahead n (value.Number j) (value.Number i) = tells n (as_result (sum_of i j))
 sum_ahead n (value.Number j) (value.Truth c) = Waiting
 sum_ahead n (value.Number j) (value.Function m h) = Waiting
 sum_ahead n (value.Truth b) x = Waiting

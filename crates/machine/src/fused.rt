@@ -6,27 +6,26 @@ ghost use Rattle.reckoning.specs.Work.{Work};
 ghost use Rattle.reckoning.specs.Moves.{move, stuck};
 ghost use Rattle.record.specs.Nodes.{node_at};
 ghost use Rattle.syntax.specs.declared.node.Node.TheVariants.{Sum};
-ghost use Rattle.machine.specs.Places.{At, Fine};
+ghost use Rattle.machine.specs.Places.{At};
 ghost use Rattle.machine.specs.Handles.{IsListOf};
 ghost use Rattle.machine.specs.Standing.{Meets, Enters, Deeper};
 ghost use Rattle.machine.specs.Fused.{AtOnce};
 
 use crate::operation::Operation;
-use crate::seek::{Entered, node, number_value};
 use crate::operations::{MOST_OPEN, Operations};
-use values::Value;
+use crate::seek::{Entered, node, number_value};
 use store::contract::Store;
 use syntax::node::Node;
+use values::Value;
 
 /// The value of a node that is worked out at once.
 fn leaf<W: Store<Elem = Value>>(
     nodes: &[Node],
     store: &W,
-    place: usize,
+    place: u16,
     environment: u32,
 ) -> Option<Value>
-    requires fine { Fine nodes.now }
-    requires there { (t : Term) × (env : Env) × At nodes.now place t × IsListOf nodes.now (W.Store.lists store.now) environment env }
+    requires { (t : Term) × (env : Env) × At nodes.now place t × IsListOf nodes.now (W.Store.lists store.now) environment env }
     ensures { (t : Term) (env : Env) → At nodes.now place t → IsListOf nodes.now (W.Store.lists store.now) environment env → AtOnce nodes.now (W.Store.lists store.now) t env result }
 {
     match node(nodes, place) {
@@ -37,7 +36,7 @@ fn leaf<W: Store<Elem = Value>>(
             Err(_) => None,
         },
         Node::Function(_) => Some(Value::Function {
-            node: place as u16,
+            node: place,
             environment,
         }),
         _ => None,
@@ -49,12 +48,11 @@ pub fn enter_sum<W: Store<Elem = Value>>(
     nodes: &[Node],
     store: &W,
     table: &mut Operations,
-    place: usize,
-    left: usize,
-    right: usize,
+    place: u16,
+    left: u16,
+    right: u16,
     environment: u32,
 ) -> Entered
-    requires fine { Fine nodes.now }
     requires sum { Sum left right ≡ node_at nodes.now place }
     requires meets { (w : Work) × (k : ℕ) × Meets nodes.now (W.Store.lists store.now) table.old place environment w k × (move w ≢ stuck) }
     ensures deeper { Deeper place result }

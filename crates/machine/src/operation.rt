@@ -10,43 +10,46 @@ use values::Value;
 pub enum Operation {
     /// The argument is being worked out, and the function waits.
     Argument {
-        node: usize,
-        function: usize,
+        node: u16,
+        function: u16,
         environment: u32,
     },
     /// The function is being worked out.
     Applied {
-        node: usize,
+        node: u16,
         argument: Value,
     },
     /// What a let binds is being worked out.
     Bound {
-        node: usize,
-        body: usize,
+        node: u16,
+        body: u16,
         environment: u32,
     },
     SumRight {
-        node: usize,
-        left: usize,
+        node: u16,
+        left: u16,
         environment: u32,
     },
     SumLeft {
-        node: usize,
+        node: u16,
         right: Value,
     },
     CompareRight {
-        node: usize,
-        left: usize,
+        node: u16,
+        left: u16,
         environment: u32,
     },
     CompareLeft {
-        node: usize,
+        node: u16,
         right: Value,
     },
     Condition {
-        node: usize,
-        then: usize,
-        otherwise: usize,
+        node: u16,
+        then: u16,
+        otherwise: u16,
         environment: u32,
     },
 }
+
+// A machine has room for 256 of them.
+const _: () = prove!(size_of::<Operation>() == 12);

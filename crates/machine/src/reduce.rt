@@ -4,16 +4,16 @@ ghost use Rattle.values.specs.declared.Value.{Value as RunValue};
 ghost use Rattle.reckoning.specs.Work.{Work};
 ghost use Rattle.reckoning.specs.Moves.{move, stuck};
 ghost use Rattle.machine.specs.declared.operation.Operation.TheVariants.{Applied, Bound, SumLeft, CompareLeft, Condition};
-ghost use Rattle.machine.specs.Places.{Fine};
 ghost use Rattle.machine.specs.Standing.{Readied};
 ghost use Rattle.machine.specs.Reducing.{room_of, OnTop, Reduces, Extends};
 
 use crate::operation::Operation;
-use crate::seek::node as node_of;
 use crate::operations::Operations;
-use values::Value;
+use crate::seek::node as node_of;
+use arithmetic::OutOfRange;
 use store::contract::Store;
 use syntax::node::Node;
+use values::Value;
 
 /// Where a reduction leads.
 #[derive(Clone, Copy)]
@@ -21,25 +21,26 @@ pub enum Reduced {
     /// To a value.
     Found(Value),
     /// To a body, or to the branch of an if.
-    Body { place: usize, environment: u32 },
+    Body { place: u16, environment: u32 },
     /// Nowhere: the sum leaves the number range.
-    Range(usize),
+    Range { node: u16, beyond: OutOfRange },
     /// Nowhere: the extension costs more than is free.
-    NoStore(usize),
+    NoStore(u16),
 }
 
 /// Puts a value before an environment, and enters a body in it.
 fn enter_body<W: Store<Elem = Value>>(
     store: &mut W,
     table: &mut Operations,
-    node: usize,
-    place: usize,
+    node: u16,
+    place: u16,
     environment: u32,
     value: Value,
 ) -> Reduced
     requires open { 0 < table.old.depth }
     requires known { (l : List RunValue) × (W.Store.lists store.old environment ≡ Some l) }
     ensures extends { (l : List RunValue) → W.Store.lists store.old environment ≡ Some l → Extends (W.Store.lists store.old) (W.Store.lists store.new) (W.Store.room store.old) (W.Store.room store.new) (W.Store.cost store.old) l value node place table.old table.new result }
+    ensures base { W.Store.base store.new ≡ W.Store.base store.old }
     ensures whole { W.Store.whole store.new ≡ W.Store.whole store.old }
     ensures cost { W.Store.cost store.new ≡ W.Store.cost store.old }
 {
@@ -60,12 +61,13 @@ fn apply<W: Store<Elem = Value>>(
     nodes: &[Node],
     store: &mut W,
     table: &mut Operations,
-    node: usize,
+    node: u16,
     argument: Value,
     value: Value,
 ) -> Reduced
     requires top { (w : Work) × OnTop nodes.now (W.Store.lists store.old) table.old (Applied node argument) value w × (move w ≢ stuck) }
     ensures reduces { (w : Work) → OnTop nodes.now (W.Store.lists store.old) table.old (Applied node argument) value w → Reduces nodes.now (room_of (W.Store.whole store.old) (W.Store.cost store.old)) (W.Store.lists store.old) (W.Store.lists store.new) (W.Store.room store.old) (W.Store.room store.new) table.new result w }
+    ensures base { W.Store.base store.new ≡ W.Store.base store.old }
     ensures whole { W.Store.whole store.new ≡ W.Store.whole store.old }
     ensures cost { W.Store.cost store.new ≡ W.Store.cost store.old }
 {
@@ -76,7 +78,7 @@ fn apply<W: Store<Elem = Value>>(
     else {
         unreachable!()
     };
-    let Node::Function(body) = node_of(nodes, function as usize) else {
+    let Node::Function(body) = node_of(nodes, function) else {
         unreachable!()
     };
     enter_body(store, table, node, body, environment, argument)
@@ -87,13 +89,14 @@ fn bind<W: Store<Elem = Value>>(
     nodes: &[Node],
     store: &mut W,
     table: &mut Operations,
-    node: usize,
-    body: usize,
+    node: u16,
+    body: u16,
     environment: u32,
     value: Value,
 ) -> Reduced
     requires top { (w : Work) × OnTop nodes.now (W.Store.lists store.old) table.old (Bound node body environment) value w }
     ensures reduces { (w : Work) → OnTop nodes.now (W.Store.lists store.old) table.old (Bound node body environment) value w → Reduces nodes.now (room_of (W.Store.whole store.old) (W.Store.cost store.old)) (W.Store.lists store.old) (W.Store.lists store.new) (W.Store.room store.old) (W.Store.room store.new) table.new result w }
+    ensures base { W.Store.base store.new ≡ W.Store.base store.old }
     ensures whole { W.Store.whole store.new ≡ W.Store.whole store.old }
     ensures cost { W.Store.cost store.new ≡ W.Store.cost store.old }
 {
@@ -105,7 +108,7 @@ fn add<W: Store<Elem = Value>>(
     nodes: &[Node],
     store: &W,
     table: &mut Operations,
-    node: usize,
+    node: u16,
     right: Value,
     value: Value,
 ) -> Reduced
@@ -118,12 +121,12 @@ fn add<W: Store<Elem = Value>>(
     let Value::Number(right) = right else {
         unreachable!()
     };
-    match left.checked_add(right) {
-        Some(sum) => {
+    match arithmetic::sum(left, right) {
+        Ok(sum) => {
             table.pop();
             Reduced::Found(Value::Number(sum))
         }
-        None => Reduced::Range(node),
+        Err(beyond) => Reduced::Range { node, beyond },
     }
 }
 
@@ -132,7 +135,7 @@ fn compare<W: Store<Elem = Value>>(
     nodes: &[Node],
     store: &W,
     table: &mut Operations,
-    node: usize,
+    node: u16,
     right: Value,
     value: Value,
 ) -> Reduced
@@ -154,9 +157,9 @@ fn choose<W: Store<Elem = Value>>(
     nodes: &[Node],
     store: &W,
     table: &mut Operations,
-    node: usize,
-    then: usize,
-    otherwise: usize,
+    node: u16,
+    then: u16,
+    otherwise: u16,
     environment: u32,
     value: Value,
 ) -> Reduced
@@ -182,6 +185,7 @@ pub fn reduce<W: Store<Elem = Value>>(
 ) -> Reduced
     requires ready { (w : Work) × Readied nodes.now (W.Store.lists store.old) table.old value w × (move w ≢ stuck) }
     ensures reduces { (w : Work) → Readied nodes.now (W.Store.lists store.old) table.old value w → Reduces nodes.now (room_of (W.Store.whole store.old) (W.Store.cost store.old)) (W.Store.lists store.old) (W.Store.lists store.new) (W.Store.room store.old) (W.Store.room store.new) table.new result w }
+    ensures base { W.Store.base store.new ≡ W.Store.base store.old }
     ensures whole { W.Store.whole store.new ≡ W.Store.whole store.old }
     ensures cost { W.Store.cost store.new ≡ W.Store.cost store.old }
 {

@@ -3,15 +3,14 @@ ghost use Rattle.std.specs.Prelude.{◌≡◌, ◌≢◌, ◌<◌, ℕ, length};
 ghost use Rattle.reckoning.specs.Work.{Work};
 ghost use Rattle.reckoning.specs.Moves.{move, stuck};
 ghost use Rattle.record.specs.Nodes.{node_at};
-ghost use Rattle.machine.specs.Places.{Fine};
 ghost use Rattle.machine.specs.Standing.{Meets, Enters, Finds, Deeper};
 ghost use Rattle.values.specs.declared.Value.TheVariants.{Number};
 
 use crate::operation::Operation;
 use crate::operations::{MOST_OPEN, Operations};
-use values::Value;
 use store::contract::Store;
 use syntax::node::Node;
+use values::Value;
 
 /// Where a node leads.
 #[derive(Clone, Copy)]
@@ -19,24 +18,24 @@ pub enum Entered {
     /// It has this value.
     Value(Value),
     /// Its operation was opened, and the node at this place is next, in the same environment.
-    Child(usize),
+    Child(u16),
     /// It would be one open operation too many.
-    NoStack(usize),
+    NoStack(u16),
 }
 
 /// Where seeking a value leads.
 #[derive(Clone, Copy)]
 pub enum Sought {
     Value(Value),
-    NoStack(usize),
+    NoStack(u16),
 }
 
 /// The node at a place.
-pub fn node(nodes: &[Node], place: usize) -> Node
+pub fn node(nodes: &[Node], place: u16) -> Node
     requires { place < length nodes.now }
     ensures { result ≡ node_at nodes.now place }
 {
-    nodes[place]
+    nodes[usize::from(place)]
 }
 
 /// A number, as a value.
@@ -51,11 +50,10 @@ pub fn enter<W: Store<Elem = Value>>(
     nodes: &[Node],
     store: &W,
     table: &mut Operations,
-    place: usize,
+    place: u16,
     environment: u32,
 ) -> Entered
-    requires fine { Fine nodes.now }
-    requires meets { (w : Work) × (k : ℕ) × Meets nodes.now (W.Store.lists store.now) table.old place environment w k × (move w ≢ stuck) }
+    requires { (w : Work) × (k : ℕ) × Meets nodes.now (W.Store.lists store.now) table.old place environment w k × (move w ≢ stuck) }
     ensures deeper { Deeper place result }
     ensures enters { (w : Work) (k : ℕ) → Meets nodes.now (W.Store.lists store.now) table.old place environment w k → Enters nodes.now (W.Store.lists store.now) table.new environment result w k }
 {
@@ -68,7 +66,7 @@ pub fn enter<W: Store<Elem = Value>>(
         },
         Node::Function(_) => {
             return Entered::Value(Value::Function {
-                node: place as u16,
+                node: place,
                 environment,
             });
         }
@@ -126,11 +124,10 @@ pub fn seek<W: Store<Elem = Value>>(
     nodes: &[Node],
     store: &W,
     table: &mut Operations,
-    place: usize,
+    place: u16,
     environment: u32,
 ) -> Sought
-    requires fine { Fine nodes.now }
-    requires meets { (w : Work) × (k : ℕ) × Meets nodes.now (W.Store.lists store.now) table.old place environment w k × (move w ≢ stuck) }
+    requires { (w : Work) × (k : ℕ) × Meets nodes.now (W.Store.lists store.now) table.old place environment w k × (move w ≢ stuck) }
     ensures { (w : Work) (k : ℕ) → Meets nodes.now (W.Store.lists store.now) table.old place environment w k → Finds nodes.now (W.Store.lists store.now) table.new result w k }
 {
     let mut at = place;

@@ -6,15 +6,14 @@ ghost use Rattle.store.specs.Lists.{Lists};
 ghost use Rattle.values.specs.declared.Value.{Value as RunValue};
 ghost use Rattle.reckoning.specs.Work.{Work};
 ghost use Rattle.reckoning.specs.Moves.{move, stuck};
-ghost use Rattle.machine.specs.Places.{Fine};
 ghost use Rattle.machine.specs.Standing.{HasFound, GivesWay, Settles};
 
 use crate::operation::Operation;
-use crate::seek::{Sought, seek};
 use crate::operations::Operations;
-use values::Value;
+use crate::seek::{Sought, seek};
 use store::contract::Store;
 use syntax::node::Node;
+use values::Value;
 
 /// What the innermost operation does with a value that was found.
 #[derive(Clone, Copy)]
@@ -24,7 +23,7 @@ pub enum Way {
     /// It is ready to be reduced with it.
     Ready,
     /// It keeps the value, and its left operand is next.
-    Left { place: usize, environment: u32 },
+    Left { place: u16, environment: u32 },
 }
 
 /// Where a value that was found leads, before any reduction.
@@ -32,7 +31,7 @@ pub enum Way {
 pub enum Settled {
     Over(Value),
     Ready(Value),
-    NoStack(usize),
+    NoStack(u16),
 }
 
 /// Hands a value that was found to the innermost operation: a right operand gives way to the left one.
@@ -92,8 +91,7 @@ pub fn settle<W: Store<Elem = Value>>(
     table: &mut Operations,
     value: Value,
 ) -> Settled
-    requires fine { Fine nodes.now }
-    requires found { (w : Work) × HasFound nodes.now (W.Store.lists store.now) table.old value w × (move w ≢ stuck) }
+    requires { (w : Work) × HasFound nodes.now (W.Store.lists store.now) table.old value w × (move w ≢ stuck) }
     ensures { (w : Work) → HasFound nodes.now (W.Store.lists store.now) table.old value w → Settles nodes.now (W.Store.lists store.now) table.new result w }
 {
     let mut found = value;

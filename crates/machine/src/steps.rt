@@ -9,29 +9,29 @@ ghost use Rattle.reckoning.specs.Work.{Work};
 ghost use Rattle.reckoning.specs.Moves.{move, stuck};
 ghost use Rattle.reckoning.specs.Reckoning.{Reckoned, begun, granted, steps, ahead as next_state};
 ghost use Rattle.machine.specs.declared.steps.State.TheVariants.{Waiting};
-ghost use Rattle.machine.specs.Places.{Fine};
 ghost use Rattle.machine.specs.Handles.{Root};
 ghost use Rattle.machine.specs.Standing.{Meets, HasFound, Readied};
 ghost use Rattle.machine.specs.Reducing.{room_of};
 ghost use Rattle.machine.specs.Running.{state_of, sum_ahead as sum_is_ahead, Rests, StandsAt, NeverStuck, Begins, rooted};
 
 use crate::operation::Operation;
+use crate::operations::Operations;
 use crate::reduce::{Reduced, reduce};
 use crate::seek::{Sought, seek};
 use crate::settle::{Settled, settle};
-use crate::operations::Operations;
-use values::Value;
+use arithmetic::OutOfRange;
 use store::contract::Store;
 use syntax::node::Node;
+use values::Value;
 
 /// The state of a run.
 #[derive(Clone, Copy, PartialEq, Eq, Debug)]
 pub enum State {
     Waiting,
     Done(Value),
-    Range(usize),
-    NoStore(usize),
-    NoStack(usize),
+    Range { node: u16, beyond: OutOfRange },
+    NoStore(u16),
+    NoStack(u16),
 }
 
 /// Where a run is.
@@ -45,8 +45,11 @@ pub struct Machine {
     pub state: State,
 }
 
+// A controller keeps one for each rule that runs.
+const _: () = prove!(size_of::<Machine>() == 3_104);
+
 /// What is told of a sum that is next.
-fn sum_ahead(node: usize, right: Value, left: Value) -> State
+fn sum_ahead(node: u16, right: Value, left: Value) -> State
     ensures { result ≡ sum_is_ahead node right left }
 {
     let Value::Number(right) = right else {
@@ -55,9 +58,9 @@ fn sum_ahead(node: usize, right: Value, left: Value) -> State
     let Value::Number(left) = left else {
         return State::Waiting;
     };
-    match left.checked_add(right) {
-        Some(_) => State::Waiting,
-        None => State::Range(node),
+    match arithmetic::sum(left, right) {
+        Ok(_) => State::Waiting,
+        Err(beyond) => State::Range { node, beyond },
     }
 }
 
@@ -85,8 +88,7 @@ impl Machine {
 
     /// Comes back with a value that was found, to where the run waits or ends.
     fn come_back<W: Store<Elem = Value>>(&mut self, nodes: &[Node], store: &W, value: Value)
-        requires fine { Fine nodes.now }
-        requires found { (w : Work) × HasFound nodes.now (W.Store.lists store.now) self.old.table value w × (move w ≢ stuck) }
+        requires { (w : Work) × HasFound nodes.now (W.Store.lists store.now) self.old.table value w × (move w ≢ stuck) }
         ensures rests { (w : Work) → HasFound nodes.now (W.Store.lists store.now) self.old.table value w → Rests nodes.now (W.Store.lists store.now) self.new w }
         ensures count { self.new.count ≡ self.old.count }
     {
@@ -105,11 +107,10 @@ impl Machine {
         &mut self,
         nodes: &[Node],
         store: &W,
-        place: usize,
+        place: u16,
         environment: u32,
     )
-        requires fine { Fine nodes.now }
-        requires meets { (w : Work) × (k : ℕ) × Meets nodes.now (W.Store.lists store.now) self.old.table place environment w k × (move w ≢ stuck) }
+        requires { (w : Work) × (k : ℕ) × Meets nodes.now (W.Store.lists store.now) self.old.table place environment w k × (move w ≢ stuck) }
         ensures rests { (w : Work) (k : ℕ) → Meets nodes.now (W.Store.lists store.now) self.old.table place environment w k → Rests nodes.now (W.Store.lists store.now) self.new w }
         ensures count { self.new.count ≡ self.old.count }
     {
@@ -121,8 +122,7 @@ impl Machine {
 
     /// Begins: at the root of the tree, in the environment of a handle.
     pub fn begin<W: Store<Elem = Value>>(&mut self, nodes: &[Node], store: &W, environment: u32)
-        requires fine { Fine nodes.now }
-        requires begins { (t : Tree) × (readings : List ℤ) × Begins nodes.now (W.Store.lists store.now) (W.Store.whole store.now) (W.Store.room store.now) environment t readings × (move (begun readings t).work ≢ stuck) }
+        requires { (t : Tree) × (readings : List ℤ) × Begins nodes.now (W.Store.lists store.now) (W.Store.whole store.now) (W.Store.room store.now) environment t readings × (move (begun readings t).work ≢ stuck) }
         ensures { (t : Tree) (readings : List ℤ) → Begins nodes.now (W.Store.lists store.now) (W.Store.whole store.now) (W.Store.room store.now) environment t readings → StandsAt nodes.now (W.Store.lists store.now) (room_of (W.Store.whole store.now) (W.Store.cost store.now)) (W.Store.room store.now) (rooted environment readings) self.new (begun readings t) }
     {
         self.table.clear();
@@ -132,12 +132,12 @@ impl Machine {
 
     /// One granted step of a run that waits.
     fn step<W: Store<Elem = Value>>(&mut self, nodes: &[Node], store: &mut W)
-        requires fine { Fine nodes.now }
         requires waits { self.old.state ≡ Waiting }
         requires low { self.old.count < 4294967295 }
         requires stands { (root : Root) × (s : Reckoned) × StandsAt nodes.now (W.Store.lists store.old) (room_of (W.Store.whole store.old) (W.Store.cost store.old)) (W.Store.room store.old) root self.old s × NeverStuck (room_of (W.Store.whole store.old) (W.Store.cost store.old)) s }
         ensures goes { (root : Root) (s : Reckoned) → StandsAt nodes.now (W.Store.lists store.old) (room_of (W.Store.whole store.old) (W.Store.cost store.old)) (W.Store.room store.old) root self.old s → StandsAt nodes.now (W.Store.lists store.new) (room_of (W.Store.whole store.old) (W.Store.cost store.old)) (W.Store.room store.new) root self.new (granted (room_of (W.Store.whole store.old) (W.Store.cost store.old)) s) }
         ensures low { self.new.count ≤ self.old.count + 1 }
+        ensures base { W.Store.base store.new ≡ W.Store.base store.old }
         ensures whole { W.Store.whole store.new ≡ W.Store.whole store.old }
         ensures cost { W.Store.cost store.new ≡ W.Store.cost store.old }
     {
@@ -150,17 +150,17 @@ impl Machine {
                 self.count += 1;
                 self.go_to(nodes, store, place, environment);
             }
-            Reduced::Range(_) => unreachable!(),
+            Reduced::Range { .. } => unreachable!(),
             Reduced::NoStore(node) => self.state = State::NoStore(node),
         }
     }
 
     /// So many granted steps: exactly as many reductions, or as many as there are before the run ends.
     pub fn grant<W: Store<Elem = Value>>(&mut self, nodes: &[Node], store: &mut W, granted: u32)
-        requires fine { Fine nodes.now }
         requires low { self.old.count + granted < 4294967296 }
         requires stands { (root : Root) × (s : Reckoned) × StandsAt nodes.now (W.Store.lists store.old) (room_of (W.Store.whole store.old) (W.Store.cost store.old)) (W.Store.room store.old) root self.old s × NeverStuck (room_of (W.Store.whole store.old) (W.Store.cost store.old)) s }
         ensures goes { (root : Root) (s : Reckoned) → StandsAt nodes.now (W.Store.lists store.old) (room_of (W.Store.whole store.old) (W.Store.cost store.old)) (W.Store.room store.old) root self.old s → StandsAt nodes.now (W.Store.lists store.new) (room_of (W.Store.whole store.old) (W.Store.cost store.old)) (W.Store.room store.new) root self.new (steps (room_of (W.Store.whole store.old) (W.Store.cost store.old)) granted s) }
+        ensures base { W.Store.base store.new ≡ W.Store.base store.old }
         ensures whole { W.Store.whole store.new ≡ W.Store.whole store.old }
         ensures cost { W.Store.cost store.new ≡ W.Store.cost store.old }
     {

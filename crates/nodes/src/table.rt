@@ -33,10 +33,10 @@ impl Table {
     }
 
     /// Puts a node behind the others, and answers its place.
-    pub fn push(&mut self, node: Node) -> usize
+    pub fn push(&mut self, node: Node) -> u16
         ensures { Pushed self.old self.new node result }
     {
-        let at = self.nodes.len();
+        let at = self.nodes.len() as u16;
         if self.nodes.try_push(node).is_ok() {
             self.bytes += 1 + node.kind().operands();
         }

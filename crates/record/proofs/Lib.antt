@@ -2,6 +2,7 @@ pub mod Standing
 pub mod Asking
 pub mod Walking
 pub mod Holding
+pub mod Telling
 pub mod Growing
 pub mod Stepping
 pub mod Receiving

@@ -13,13 +13,12 @@ fn array_at<const N: usize>(bytes: &[u8], place: usize) -> [u8; N]
 }
 
 /// What two bytes come to.
-pub(crate) fn two_bytes(bytes: &[u8], place: usize) -> usize
+pub(crate) fn two_bytes(bytes: &[u8], place: usize) -> u16
     requires { place + 2 ≤ length bytes.now }
     ensures value { result ≡ two_at bytes.now place }
-    ensures small { result < 65536 }
     ensures bytes { Stands bytes.now place (two_bytes result) }
 {
-    usize::from(u16::from_be_bytes(array_at(bytes, place)))
+    u16::from_be_bytes(array_at(bytes, place))
 }
 
 /// The number whose two's complement four bytes are.

@@ -26,12 +26,12 @@ impl Reader<'_> {
 }
 
 /// The distance of the variable that begins at a place, with `bound` variables in force around it.
-pub(crate) fn distance(bytes: &[u8], place: usize, bound: usize) -> Result<usize, RecordFault>
+pub(crate) fn distance(bytes: &[u8], place: usize, bound: usize) -> Result<u16, RecordFault>
     requires { place + 3 ≤ length bytes.now }
     ensures { Distance bytes.now place bound result }
 {
     let distance = two_bytes(bytes, place + 1);
-    if distance >= bound {
+    if usize::from(distance) >= bound {
         return Err(RecordFault::Unbound(place));
     }
     Ok(distance)

@@ -33,8 +33,15 @@ impl<'a> Reader<'a> {
         }
     }
 
+    /// The place that the next node gets.
+    pub(crate) fn next(&self) -> u16
+        ensures { result ≡ length self.now.nodes.items }
+    {
+        self.nodes.len() as u16
+    }
+
     /// Goes over a node's own bytes, and takes the next place in the table for it, since its children come first.
-    pub(crate) fn open(&mut self, kind: Kind) -> usize
+    pub(crate) fn open(&mut self, kind: Kind) -> u16
         requires there { self.old.place + (1 + operands_of kind) ≤ length self.old.bytes.now }
         requires few { length self.old.nodes.items < 512 }
         ensures at { result ≡ length self.old.nodes.items }
@@ -42,19 +49,19 @@ impl<'a> Reader<'a> {
         ensures place { self.new.place ≡ self.old.place + (1 + operands_of kind) }
         ensures nodes { self.new.nodes.items ≡ self.old.nodes.items ++ Number (pos 0) ∷ [] }
     {
-        let at = self.nodes.len();
+        let at = self.next();
         self.place += 1 + kind.operands();
         self.nodes.push(Node::default());
         at
     }
 
     /// Puts a node into the place that was taken for it.
-    pub(crate) fn put(&mut self, at: usize, node: Node)
+    pub(crate) fn put(&mut self, at: u16, node: Node)
         requires { at < length self.old.nodes.items }
         ensures bytes { self.new.bytes.now ≡ self.old.bytes.now }
         ensures place { self.new.place ≡ self.old.place }
         ensures nodes { self.new.nodes.items ≡ slice_set self.old.nodes.items at node }
     {
-        self.nodes[at] = node;
+        self.nodes[usize::from(at)] = node;
     }
 }

@@ -34,7 +34,7 @@ impl Reader<'_> {
             Kind::AtMost => Node::AtMost(at + 1, self.two(bound, bound)?),
             Kind::IfElse => {
                 let then = self.two(bound, bound)?;
-                let otherwise = self.nodes.len();
+                let otherwise = self.next();
                 self.tree(bound)?;
                 Node::IfElse(at + 1, then, otherwise)
             }
@@ -45,13 +45,13 @@ impl Reader<'_> {
 
     /// Reads two trees, one behind the other, and answers the second's node.
     #[cycle(tree_two)]
-    fn two(&mut self, first: usize, second: usize) -> Result<usize, RecordFault>
+    fn two(&mut self, first: usize, second: usize) -> Result<u16, RecordFault>
         requires first { first ≤ length self.old.nodes.items + 8 }
         requires second { second ≤ length self.old.nodes.items + 9 }
         ensures { ReadsTwo first second self.old self.new result }
     {
         self.tree(first)?;
-        let at = self.nodes.len();
+        let at = self.next();
         self.tree(second)?;
         Ok(at)
     }

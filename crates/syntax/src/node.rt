@@ -6,20 +6,25 @@ ghost use Rattle.syntax.specs.Kinds.{kind_of};
 use crate::kind::Kind;
 
 /// A node, its children by their places in the table.
+///
+/// A table has at most 512 nodes and a record two bytes for a distance, so that 16 bits hold either.
 // Kept: boxes would need a heap, and a controller has none.
 #[derive(Clone, Copy, Debug, PartialEq, Eq)]
 pub enum Node {
     Number(i32),
     Truth(bool),
     /// How many binders stand between a variable and its own.
-    Variable(usize),
-    Function(usize),
-    Application(usize, usize),
-    LetIn(usize, usize),
-    Sum(usize, usize),
-    AtMost(usize, usize),
-    IfElse(usize, usize, usize),
+    Variable(u16),
+    Function(u16),
+    Application(u16, u16),
+    LetIn(u16, u16),
+    Sum(u16, u16),
+    AtMost(u16, u16),
+    IfElse(u16, u16, u16),
 }
+
+// A controller keeps a table for each of its rules.
+const _: () = prove!(size_of::<Node>() == 8);
 
 impl Default for Node {
     ghost is_default = { λ node. node ≡ Number (pos 0) };
@@ -30,19 +35,19 @@ impl Default for Node {
 }
 
 impl Node {
-    pub fn variable(distance: usize) -> Node
+    pub fn variable(distance: u16) -> Node
         ensures { result ≡ Variable distance }
     {
         Node::Variable(distance)
     }
 
-    pub fn applied(function: usize, argument: usize) -> Node
+    pub fn applied(function: u16, argument: u16) -> Node
         ensures { result ≡ Application function argument }
     {
         Node::Application(function, argument)
     }
 
-    pub fn summed(left: usize, right: usize) -> Node
+    pub fn summed(left: u16, right: u16) -> Node
         ensures { result ≡ Sum left right }
     {
         Node::Sum(left, right)

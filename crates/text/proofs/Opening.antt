@@ -63,3 +63,13 @@ length_open a = length-map (reverse a.names.items) (λ n. n.now) ∙ length-reve
 
 pub restored_names : (a b : Scope) → Restored a b → open_names b ≡ open_names a
 restored_names a b r = ap (λ l. map (λ n. n.now) (reverse l)) r
+
+-- a name that is looked up among the names of a scope first, and behind them
+pub behind_scope : (a : Scope) (ys : List Name) (x : Name) (n : ℕ) (P : Type 0) (o r : Index ℕ) → n ≡ length a.names.items → o ≡ position (λ y. same x y.now) (reverse a.names.items) → MatchOption o P (λ d. r ≡ Some d) → (P → (y : Index ℕ) × Found ys x y × MatchOption y (r ≡ None) (λ d. r ≡ Some (n + d))) → Found (open_names a ++ ys) x r
+behind_scope a ys x n P o r long first h late =
+    behind_open (open_names a) ys x n P o r (long ∙ sym (length_open a)) (subst (Found (open_names a) x) (sym first) (first_open a x)) h late
+
+-- what is found stays so in a narrower number
+pub found_narrowed : (xs : List Name) (x : Name) (P : Type 0) (Q : ℕ → Type 0) (o r : Index ℕ) → Found xs x o → MatchOption o P Q → (P → r ≡ None) → ((d : ℕ) → Q d → r ≡ Some d) → Found xs x r
+found_narrowed xs x P Q None r f h absent made = subst (Found xs x) (sym (absent h)) f
+found_narrowed xs x P Q (Some d) r f h absent made = subst (Found xs x) (sym (made d h)) f

@@ -41,6 +41,10 @@ put_put w w₁ w₂ bs cs le p q =
 
 -- ── nodes ──
 
+-- a node with two children
+abbrev pub HasTwo : Node → ℕ → ℕ → Type 0
+HasTwo n a b = (n ≡ Application a b) ⊎ ((n ≡ LetIn a b) ⊎ ((n ≡ Sum a b) ⊎ (n ≡ AtMost a b)))
+
 abbrev Two : List Node → ℕ → ℕ → List ℕ → ℕ → ℕ → Type 0
 Two ns i byte bs a b = (u v : Tree) × (bs ≡ byte ∷ (encode u ++ encode v)) × (a < i) × (b < i) × Holds ns a u × Holds ns b v
 
@@ -115,7 +119,7 @@ module _ (ns : List Node) (i byte : ℕ) (own : byte ≡ byte_of (kind_of (at ns
 
     -- ── two children ──
 
-    module _ (a b : ℕ) (e : (at ns i ≡ Application a b) ⊎ ((at ns i ≡ LetIn a b) ⊎ ((at ns i ≡ Sum a b) ⊎ (at ns i ≡ AtMost a b)))) where
+    module _ (a b : ℕ) (e : HasTwo (at ns i) a b) where
       two : (t : Tree) → Holds ns i t → Two ns i byte (encode t) a b
       two t h =
           ⊎_elim

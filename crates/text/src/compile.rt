@@ -42,12 +42,7 @@ fn fits(length: usize, room: usize) -> bool
 }
 
 /// Writes the record of a tree that was read.
-fn record(
-    table: &Table,
-    root: usize,
-    readings: usize,
-    out: &mut [u8],
-) -> Result<usize, CompileFault>
+fn record(table: &Table, root: u16, readings: usize, out: &mut [u8]) -> Result<usize, CompileFault>
     requires few { readings ≤ 8 }
     requires held { (t : Tree) × Held table.now t root }
     ensures { (t : Tree) → Held table.now t root → Recorded readings t out.old out.new result }
@@ -60,7 +55,7 @@ fn record(
         return Err(CompileFault::NoRoom);
     }
     let mut writer = Writer { out, at: 0 };
-    writer.put(&two_bytes(length - 2));
+    writer.put(&two_bytes((length - 2) as u16));
     writer.put(&[VERSION, readings as u8]);
     writer.tree(table.nodes.as_slice(), root);
     Ok(length)

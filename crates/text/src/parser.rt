@@ -89,7 +89,7 @@ impl<'a> Parser<'a> {
 
     /// `fun name -> expr`, `let name = expr in expr`, `if expr then expr else expr`, or a comparison.
     #[cycle(application_atom_body_comparison_expr_function_if_else_let_in_sum)]
-    pub(crate) fn expr(&mut self, scope: &mut Scope<'a>) -> Result<usize, CompileFault>
+    pub(crate) fn expr(&mut self, scope: &mut Scope<'a>) -> Result<u16, CompileFault>
         requires { Room self.old scope.old }
         ensures restored { Restored scope.old scope.new }
         ensures reads { ReadsExpr (source self.old) (open_names scope.old) self.old self.new result }
@@ -104,7 +104,7 @@ impl<'a> Parser<'a> {
 
     /// `fun name -> expr`
     #[cycle(application_atom_body_comparison_expr_function_if_else_let_in_sum)]
-    fn function(&mut self, scope: &mut Scope<'a>) -> Result<usize, CompileFault>
+    fn function(&mut self, scope: &mut Scope<'a>) -> Result<u16, CompileFault>
         requires room { Room self.old scope.old }
         requires begins { (at self.old).token ≡ mark Fun }
         ensures restored { Restored scope.old scope.new }
@@ -119,7 +119,7 @@ impl<'a> Parser<'a> {
 
     /// `let name = expr in expr`; the name opens behind `in`.
     #[cycle(application_atom_body_comparison_expr_function_if_else_let_in_sum)]
-    fn let_in(&mut self, scope: &mut Scope<'a>) -> Result<usize, CompileFault>
+    fn let_in(&mut self, scope: &mut Scope<'a>) -> Result<u16, CompileFault>
         requires room { Room self.old scope.old }
         requires begins { (at self.old).token ≡ mark Let }
         ensures restored { Restored scope.old scope.new }
@@ -136,7 +136,7 @@ impl<'a> Parser<'a> {
 
     /// `if expr then expr else expr`
     #[cycle(application_atom_body_comparison_expr_function_if_else_let_in_sum)]
-    fn if_else(&mut self, scope: &mut Scope<'a>) -> Result<usize, CompileFault>
+    fn if_else(&mut self, scope: &mut Scope<'a>) -> Result<u16, CompileFault>
         requires room { Room self.old scope.old }
         requires begins { (at self.old).token ≡ mark If }
         ensures restored { Restored scope.old scope.new }
@@ -153,7 +153,7 @@ impl<'a> Parser<'a> {
 
     /// An expression with one name more in force. The guard closes the name on every way out.
     #[cycle(application_atom_body_comparison_expr_function_if_else_let_in_sum)]
-    fn body(&mut self, scope: &mut Scope<'a>, name: &'a [u8]) -> Result<usize, CompileFault>
+    fn body(&mut self, scope: &mut Scope<'a>, name: &'a [u8]) -> Result<u16, CompileFault>
         requires { 3 * array_vec_len scope.old.names + 3 ≤ self.old.current.place }
         ensures restored { Restored scope.old scope.new }
         ensures reads { ReadsExpr (source self.old) (name.now ∷ open_names scope.old) self.old self.new result }
@@ -166,7 +166,7 @@ impl<'a> Parser<'a> {
 
     /// `sum`, or `sum <= sum`
     #[cycle(application_atom_body_comparison_expr_function_if_else_let_in_sum)]
-    fn comparison(&mut self, scope: &mut Scope<'a>) -> Result<usize, CompileFault>
+    fn comparison(&mut self, scope: &mut Scope<'a>) -> Result<u16, CompileFault>
         requires { Room self.old scope.old }
         ensures restored { Restored scope.old scope.new }
         ensures reads { ReadsComparison (source self.old) (open_names scope.old) self.old self.new result }
@@ -182,7 +182,7 @@ impl<'a> Parser<'a> {
 
     /// `app`, or `sum + app`: sums group to the left.
     #[cycle(application_atom_body_comparison_expr_function_if_else_let_in_sum)]
-    fn sum(&mut self, scope: &mut Scope<'a>) -> Result<usize, CompileFault>
+    fn sum(&mut self, scope: &mut Scope<'a>) -> Result<u16, CompileFault>
         requires { Room self.old scope.old }
         ensures restored { Restored scope.old scope.new }
         ensures reads { ReadsSum (source self.old) (open_names scope.old) self.old self.new result }
@@ -198,7 +198,7 @@ impl<'a> Parser<'a> {
 
     /// `atom`, or `app atom`: applications group to the left.
     #[cycle(application_atom_body_comparison_expr_function_if_else_let_in_sum)]
-    fn application(&mut self, scope: &mut Scope<'a>) -> Result<usize, CompileFault>
+    fn application(&mut self, scope: &mut Scope<'a>) -> Result<u16, CompileFault>
         requires { Room self.old scope.old }
         ensures restored { Restored scope.old scope.new }
         ensures reads { ReadsApplication (source self.old) (open_names scope.old) self.old self.new result }
@@ -213,7 +213,7 @@ impl<'a> Parser<'a> {
 
     /// A number, `true`, `false`, a name, or `( expr )`.
     #[cycle(application_atom_body_comparison_expr_function_if_else_let_in_sum)]
-    fn atom(&mut self, scope: &mut Scope<'a>) -> Result<usize, CompileFault>
+    fn atom(&mut self, scope: &mut Scope<'a>) -> Result<u16, CompileFault>
         requires { Room self.old scope.old }
         ensures restored { Restored scope.old scope.new }
         ensures reads { ReadsAtom (source self.old) (open_names scope.old) self.old self.new result }

@@ -64,11 +64,12 @@ impl<'a> Scope<'a> {
 
     /// How many names in force stand before this one, readings behind all open names; none where it
     /// is not in force.
-    pub(crate) fn distance(&self, book: &Book, name: &[u8]) -> Option<usize>
+    pub(crate) fn distance(&self, book: &Book, name: &[u8]) -> Option<u16>
         ensures { Found (open_names self.now ++ names book.now) name.now result }
     {
         let open = self.names.len();
         self.find(name)
             .or_else(|| book.find(name).map(|reading| open + reading))
+            .map(|distance| distance as u16)
     }
 }

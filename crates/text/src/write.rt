@@ -5,11 +5,11 @@ ghost use Rattle.text.specs.Writing.{Put, Fits, Wrote};
 
 use syntax::node::Node;
 
-/// The two lowest bytes of a number, the higher first.
-pub(crate) fn two_bytes(number: usize) -> [u8; 2]
-    ensures { result ≡ Record.two_bytes number }
+/// The bytes of a number, the higher first.
+pub(crate) fn two_bytes(value: u16) -> [u8; 2]
+    ensures { result ≡ Record.two_bytes value }
 {
-    ((number % 65_536) as u16).to_be_bytes()
+    value.to_be_bytes()
 }
 
 /// A buffer, and the place up to which it is written.
@@ -34,12 +34,12 @@ impl Writer<'_> {
     }
 
     /// Writes the tree at a node.
-    pub(crate) fn tree(&mut self, nodes: &[Node], root: usize)
+    pub(crate) fn tree(&mut self, nodes: &[Node], root: u16)
         requires { Fits nodes.now root self.old }
         ensures same_reference { self.new.out.ghost_name ≡ self.old.out.ghost_name }
         ensures wrote { Wrote nodes.now root self.old self.new }
     {
-        let node = nodes[root];
+        let node = nodes[usize::from(root)];
         self.put(&[u8::from(node.kind())]);
         match node {
             Node::Number(number) => self.put(&number.to_be_bytes()),

@@ -138,7 +138,7 @@ fn own_of(node: Node, around: usize) -> Own {
         Node::Sum(_, _) => Own::Told("a sum is an int"),
         Node::AtMost(_, _) => Own::Told("a comparison is a bool"),
         Node::Function(_) => Own::Told("`fun` makes a function"),
-        Node::Variable(distance) if distance >= around => Own::Told("a reading is an int"),
+        Node::Variable(distance) if usize::from(distance) >= around => Own::Told("a reading is an int"),
         Node::Variable(_) => Own::Opened,
         Node::Application(_, _) | Node::LetIn(_, _) | Node::IfElse(_, _, _) => Own::Any,
     }

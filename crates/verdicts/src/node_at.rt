@@ -23,7 +23,7 @@ impl<'a> NodeAt<'a> {
     /// The last node of the tree that begins here.
     pub(crate) fn last_below(self) -> NodeAt<'a> {
         let nodes = self.nodes;
-        let at = iter::successors(Some(self.at), |at| last_child(*nodes.get(*at)?))
+        let at = iter::successors(Some(self.at), |at| last_child(*nodes.get(*at)?).map(usize::from))
             .take(nodes.len())
             .last()
             .unwrap_or(self.at);
@@ -35,12 +35,12 @@ impl<'a> NodeAt<'a> {
         let Some(Node::Application(_, argument)) = self.nodes.get(self.at.saturating_sub(1)) else {
             return false;
         };
-        matches!(self.nodes.get(*argument), Some(Node::Number(number)) if *number < 0)
+        matches!(self.nodes.get(usize::from(*argument)), Some(Node::Number(number)) if *number < 0)
     }
 }
 
 /// The last child of a node, where it has any.
-fn last_child(node: Node) -> Option<usize> {
+fn last_child(node: Node) -> Option<u16> {
     match node {
         Node::Number(_) | Node::Truth(_) | Node::Variable(_) => None,
         Node::Function(last) => Some(last),

@@ -7,7 +7,7 @@ use Rattle.machine.proofs.Fusing.{number_at_once, truth_at_once, function_at_onc
 use Rattle.machine.proofs.fused.leaf.Goals as goal
 
 pub node-requires : goal.node-requires
-node-requires g c = at_inside c.args.nodes.now c.args.place c.requires.there.0 c.requires.there.2
+node-requires g c = at_inside c.args.nodes.now c.args.place c.requires.0 c.requires.2
 
 pub returns-in-Number : goal.returns-in-Number
 returns-in-Number g c t env a i =

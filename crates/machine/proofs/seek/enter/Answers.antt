@@ -10,7 +10,7 @@ use Rattle.machine.proofs.seek.enter.Goals as goal
 use Rattle.machine.proofs.seek.enter.Goals.{in-Application, in-LetIn, in-Sum, in-AtMost, in-IfElse}
 
 pub node-requires : goal.node-requires
-node-requires g c = let m = c.requires.meets.2 in at_inside c.args.nodes.now c.args.place m.term m.at
+node-requires g c = let m = c.requires.2 in at_inside c.args.nodes.now c.args.place m.term m.at
 
 pub returns-in-Number-clause-enters : goal.returns-in-Number-clause-enters
 returns-in-Number-clause-enters g c w k m =
@@ -28,7 +28,7 @@ returns-in-Ok-clause-enters g c w k m =
 
 pub unreachable-requires : goal.unreachable-requires
 unreachable-requires g c =
-    let m = c.requires.meets in
+    let m = c.requires in
     m.3 (no_variable c.args.nodes.now (g.W.Store.lists c.args.store.now) c.args.table.now c.args.place c.args.environment m.0 m.1 c.in-Variable.distance c.in-Err.field-0 c.in-Variable.ensures c.in-Err.ensures m.2)
 
 pub returns-in-Function-clause-enters : goal.returns-in-Function-clause-enters
@@ -46,7 +46,7 @@ returns-then-table-eq-MOST_OPEN-clause-enters g c w k m =
     ]
 
 pub returns-clause-deeper : goal.returns-clause-deeper
-returns-clause-deeper g c = let m = c.requires.meets.2 in
+returns-clause-deeper g c = let m = c.requires.2 in
     elim c.match-node.branch [
       | in-Application v ↦ subst (λ x. c.args.place < x.1) (sym v.op-is) (shape c.args.nodes.now c.args.place m.term _ m.at v.in-Application.ensures).3.deeper
       | in-LetIn v ↦ subst (λ x. c.args.place < x.1) (sym v.op-is) (shape c.args.nodes.now c.args.place m.term _ m.at v.in-LetIn.ensures).3.deeper

@@ -1,9 +1,9 @@
 use Rattle.machine.proofs.Beginning.{begins_met, begins_stands}
 use Rattle.machine.proofs.steps.Machine.begin.Goals as goal
 
-pub go_to-requires-clause-meets : goal.go_to-requires-clause-meets
-go_to-requires-clause-meets g c =
-    let b = c.requires.begins in
+pub go_to-requires : goal.go_to-requires
+go_to-requires g c =
+    let b = c.requires in
     (_, _, begins_met c.args.nodes.now (g.W.Store.lists c.args.store.now) (g.W.Store.whole c.args.store.now) (g.W.Store.room c.args.store.now) c.args.environment b.0 b.1 b.2 c.clear.new.self c.clear.ensures, b.3)
 
 pub returns : goal.returns

@@ -5,7 +5,7 @@ use Rattle.machine.proofs.steps.Machine.come_back.Goals as goal
 
 pub ahead-self-requires : goal.ahead-self-requires
 ahead-self-requires g c =
-    let f = c.requires.found in
+    let f = c.requires in
     (c.in-Ready.ensures f.0 f.1).some_open
 
 pub returns-in-Over-clause-rests : goal.returns-in-Over-clause-rests

@@ -2,9 +2,9 @@ use Rattle.std.proofs.Common.{◌≡◌, ℕ, arith}
 use Rattle.machine.proofs.Telling.{no_stack_rests}
 use Rattle.machine.proofs.steps.Machine.go_to.Goals as goal
 
-pub come_back-requires-clause-found : goal.come_back-requires-clause-found
-come_back-requires-clause-found g c =
-    let m = c.requires.meets in
+pub come_back-requires : goal.come_back-requires
+come_back-requires g c =
+    let m = c.requires in
     (m.0, (c.in-Value.ensures m.0 m.1 m.2).0, m.3)
 
 pub returns-in-Value-clause-rests : goal.returns-in-Value-clause-rests

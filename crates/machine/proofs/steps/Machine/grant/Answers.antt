@@ -16,6 +16,7 @@ step-requires-clause-stands g c =
 pub returns-in_default : goal.returns-in_default
 returns-in_default g c = record {
   goes = λ base s h. stopped c.args.nodes.now (g.W.Store.lists c.loop-done.store) (room_of (g.W.Store.whole c.args.store.now) (g.W.Store.cost c.args.store.now)) (g.W.Store.room c.loop-done.store) base c.loop-done.self s c.loop-done.done c.args.granted (omega arith) c.in_default.not-Waiting (c.loop-done.invariant.stands base s h);
+  base = c.loop-done.invariant.base;
   whole = c.loop-done.invariant.whole;
   cost = c.loop-done.invariant.cost;
 }
@@ -33,6 +34,7 @@ loop-done-preserved g c =
           subst (λ k. StandsAt c.args.nodes.now (g.W.Store.lists c.step.new.store) (room_of (g.W.Store.whole c.args.store.now) (g.W.Store.cost c.args.store.now)) (g.W.Store.room c.step.new.store) base c.step.new.self (steps (room_of (g.W.Store.whole c.args.store.now) (g.W.Store.cost c.args.store.now)) k s)) (sym e)
           (subst (λ y. StandsAt c.args.nodes.now (g.W.Store.lists c.step.new.store) y (g.W.Store.room c.step.new.store) base c.step.new.self (granted y (steps (room_of (g.W.Store.whole c.args.store.now) (g.W.Store.cost c.args.store.now)) c.loop-done.done s))) r next);
       low = omega arith;
+      base = c.step.ensures.base ∙ c.loop-done.invariant.base;
       whole = c.step.ensures.whole ∙ c.loop-done.invariant.whole;
       cost = c.step.ensures.cost ∙ c.loop-done.invariant.cost;
     }

@@ -12,6 +12,7 @@ invariant-loop-done g l = record {
       StandsAt l.nodes (g.W.Store.lists l.store) (room_of (g.W.Store.whole l.fn.store) (g.W.Store.cost l.fn.store)) (g.W.Store.room l.store) root l.self
       (steps (room_of (g.W.Store.whole l.fn.store) (g.W.Store.cost l.fn.store)) l.done s);
   low : l.self.count ≤ l.fn.self.count + l.done;
+  base : g.W.Store.base l.store ≡ g.W.Store.base l.fn.store;
   whole : g.W.Store.whole l.store ≡ g.W.Store.whole l.fn.store;
   cost : g.W.Store.cost l.store ≡ g.W.Store.cost l.fn.store;
 }

@@ -10,16 +10,16 @@ reduce-requires g c =
     let h = c.requires.stands in
     record { ready = (h.1.work, h.2.ready c.requires.waits, h.3 0) }
 
-pub come_back-requires-clause-found : goal.come_back-requires-clause-found
-come_back-requires-clause-found g c =
+pub come_back-requires : goal.come_back-requires
+come_back-requires g c =
     let h = c.requires.stands in
     let e : state h.1 ≡ waiting = sym h.2.in_state ∙ ap state_of c.requires.waits in
     let m = c.in-Found.ensures.reduces h.1.work (h.2.ready c.requires.waits) in
     let goes = granted_goes c.args.nodes.now (g.W.Store.lists c.args.store.now) (g.W.Store.lists c.reduce.new.store) (room_of (g.W.Store.whole c.args.store.now) (g.W.Store.cost c.args.store.now)) (g.W.Store.room c.args.store.now) (g.W.Store.room c.reduce.new.store) h.0 h.1 m.0 e h.2.left_free h.2.lists_made m.1 in
     (m.0, m.2, never_stuck_next c.args.nodes.now (g.W.Store.lists c.args.store.now) (g.W.Store.lists c.reduce.new.store) (room_of (g.W.Store.whole c.args.store.now) (g.W.Store.cost c.args.store.now)) (g.W.Store.room c.args.store.now) (g.W.Store.room c.reduce.new.store) h.0 h.1 m.0 goes h.3)
 
-pub go_to-requires-clause-meets : goal.go_to-requires-clause-meets
-go_to-requires-clause-meets g c =
+pub go_to-requires : goal.go_to-requires
+go_to-requires g c =
     let h = c.requires.stands in
     let e : state h.1 ≡ waiting = sym h.2.in_state ∙ ap state_of c.requires.waits in
     let m = c.in-Body.ensures.reduces h.1.work (h.2.ready c.requires.waits) in

@@ -111,7 +111,7 @@ tree-returns t c =
           read_pair _ _ 9 _ _ _ _ _ (Node.AtMost 0 0) _ g.1 g.2 (at_most g.1 g.2) refl start end g.0 g.3 refl refl (λ x y. (x, y)) (λ second root x y. (root ∙ ap (λ n. Node.AtMost (n + 1) w.in_ok-two-in-AtMost.field-0) c.open-at.ensures.at ∙ ap (λ n. Node.AtMost (length c.args.self.now.nodes.items + 1) n) second, x, y)))
       | tree-in-IfElse+in_ok-then-in-IfElse+in_ok-tree-in-IfElse w ↦ (let start = begun_plain _ c.args.self.now c.open-at.new.self _ (Node.IfElse 0 0 0) w.in-IfElse.is refl tt c.in_ok-kind.ensures c.open-at.ensures.bytes c.open-at.ensures.place c.open-at.ensures.nodes in
           let end = done _ c.args.self.now c.match-kind.self w.tree-in-IfElse.new.self c.put.new.self _ _ c.open-at.ensures.at w.self-is w.node-is c.put.ensures.bytes c.put.ensures.place c.put.ensures.nodes in
-          let g = w.in_ok-then-in-IfElse.ensures in let k = w.in_ok-tree-in-IfElse.ensures in read_three _ _ _ _ _ _ w.two-in-IfElse.new.self _ _ _ g.1 g.2 k.1 start end g.0 g.3 k.0 k.2 c.open-at.ensures.at w.len-otherwise.ensures.value refl)
+          let g = w.in_ok-then-in-IfElse.ensures in let k = w.in_ok-tree-in-IfElse.ensures in read_three _ _ _ _ _ _ w.two-in-IfElse.new.self _ _ _ g.1 g.2 k.1 start end g.0 g.3 k.0 k.2 c.open-at.ensures.at w.next-otherwise.ensures refl)
     ]
 
 pub two-tree-requires-2 : goal.two-tree-requires-2
@@ -135,4 +135,4 @@ pub two-returns : goal.two-returns
 two-returns t c =
     let g = c.in_ok-tree.ensures in
     let h = c.in_ok-tree-2.ensures in
-    read_two _ _ _ c.args.self.now c.tree.new.self c.tree-2.new.self g.1 h.1 g.0 g.2 h.0 h.2 c.len-at.ensures.value
+    read_two _ _ _ c.args.self.now c.tree.new.self c.tree-2.new.self g.1 h.1 g.0 g.2 h.0 h.2 c.next-at.ensures

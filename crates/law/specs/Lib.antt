@@ -1,0 +1,3 @@
+pub mod Turns
+pub mod Replies
+pub mod Law
