@@ -1,6 +1,7 @@
 //! The store over lent slots.
 ghost use Rattle.std.specs.Prelude.{◌≡◌, ℕ, ◌+◌, ◌-◌, ◌<◌, ◌≤◌, [], length, Some, Ok, slice_index_or, slice_set};
 ghost use Rattle.std.specs.Option.{IfSome};
+ghost use Rattle.std.proofs.Common.{refl, rules};
 ghost use Rattle.flat.specs.declared.slot.Slot.TheVariants.{Spare, Element};
 ghost use Rattle.flat.specs.Spans.{spares, element_of, span_of, lists_of, whole_of, room_of, cost_of, located, Placed, Spanned, New};
 
@@ -112,7 +113,7 @@ impl<'a, T: Blank + Copy> Store for FlatStore<'a, T> {
 
     ghost wiped = { λ s. s.slots.now ≡ spares s.slots.now };
 
-    fn sound(&self) {}
+    ghost sound = { λ s. Prim.search rules };
 
     fn clear(&mut self) {
         self.slots.fill_with(|| Slot::Spare);
@@ -144,5 +145,5 @@ impl<'a, T: Blank + Copy> Store for FlatStore<'a, T> {
 }
 
 impl<'a, T: Blank + Copy> BareStore for FlatStore<'a, T> {
-    fn bare(&self) {}
+    ghost bare = { λ s. refl };
 }

@@ -1,34 +1,18 @@
 -- Walks over cells, and what a further cell does to the lists.
-use Rattle.std.proofs.Common.{◌≡◌, ℕ, zero, suc, ◌+◌, ◌<◌, ◌≤◌, min, ltb, leb, ◌≢◌, List, ◌∷◌, length, get_or, set, Some, None, Ok, sym, refl, ap, ◌∙◌, ⊎_elim, add-zero, add-one, arith, length-set, get_or-set_other, get_or-set_same}
+use Rattle.std.proofs.Common.{◌≡◌, ℕ, zero, suc, ◌+◌, ◌<◌, ◌≤◌, min, ltb, leb, ◌≢◌, List, ◌∷◌, length, get_or, set, Some, None, sym, refl, ap, ◌∙◌, ⊎_elim, add-one, arith, length-set, get_or-set_other, get_or-set_same}
 use Rattle.std.proofs.lemmas.Bool.{ltb-true, le-leb, lt-leb, lt-ltb, cond-true, cond-false, cond_both, cases_lt}
-use Rattle.std.proofs.lemmas.List.{get_or_default}
-use Rattle.store.specs.Lists.{Extended, Found}
 use Rattle.store.proofs.Told.{some_none, some_some, ok_err}
 use Rattle.linked.specs.declared.cell.Cell.{Cell}
-use Rattle.linked.specs.Walk.{blank_cell, lower, walk, lists_of, whole_of, room_of}
-
--- An index of a list, told through what is left of the list behind `passed` elements.
-module _ {T : Type 0} where
-  pub found_here : (l : List T) (passed i : ℕ) (x : T) (rest more : List T) → rest ≡ x ∷ more → passed ≡ i
-      → length l ≡ passed + length rest → ((j : ℕ) (d : T) → get_or l (passed + j) d ≡ get_or rest j d) → Found l i (Ok x)
-  found_here l passed i x rest more is here long each =
-      let size : length rest ≡ suc (length more) = ap length is in
-      let at : get_or l i x ≡ x = rw (← here) (ap (λ n. get_or l n x) (sym (add-zero passed)) ∙ each 0 x ∙ ap (λ w. get_or w 0 x) is) in
-      record {
-        beyond = λ past. absurd (omega arith);
-        found = λ within. (x, refl, sym at);
-      }
-
-  pub getD_next : (l : List T) (passed : ℕ) (x : T) (rest more : List T) → rest ≡ x ∷ more
-      → ((j : ℕ) (d : T) → get_or l (passed + j) d ≡ get_or rest j d) → (j : ℕ) (d : T) → get_or l (passed + 1 + j) d ≡ get_or more j d
-  getD_next l passed x rest more is each j d =
-      let shift : passed + 1 + j ≡ passed + suc j = omega arith in
-      ap (λ n. get_or l n d) shift ∙ each (suc j) d ∙ ap (λ w. get_or w (suc j) d) is
+use Rattle.linked.specs.Walk.{blank_cell, cell_at, lower, walk, list_of, lists_of, whole_of, Pushed}
 
 module _ {T : Type 0} (blank : T) where
   -- lower: the next handle is a lower one
   pub lower_falls : (h : ℕ) (c : Cell T) → 0 < h → lower h c < h
   lower_falls h c p = cond_both (ltb c.below h) c.below 0 (λ n. n < h) (λ e. ltb-true c.below h e) (λ e. p)
+
+  -- lower: a cell that points down says where its list goes on
+  pub points_down : (i : ℕ) (c : Cell T) → c.below ≤ i → lower (suc i) c ≡ c.below
+  points_down i c p = let t : c.below < suc i = omega arith in cond-true (ltb c.below (suc i)) c.below 0 (lt-ltb c.below (suc i) t)
 
   -- walk: any fuel from the handle on gives the same list
   pub walk_fuel : (cells : List (Cell T)) (f g h : ℕ) → h ≤ f → h ≤ g → walk blank cells f h ≡ walk blank cells g h
@@ -55,22 +39,27 @@ module _ {T : Type 0} (blank : T) where
       ∙ ap (λ w. c.element ∷ w) (walk_set cells n d f (lower (suc i) c) (omega arith))
 
   -- walk: the list of a cell that was just written
-  pub walk_fresh : (cells : List (Cell T)) (n h : ℕ) (x : T) → n < length cells → h ≤ n
-      → walk blank (set cells n (record { element = x; below = h })) (suc n) (suc n) ≡ x ∷ walk blank cells h h
-  walk_fresh cells n h x within p =
-      let c : Cell T = record { element = x; below = h } in
-      let down : lower (suc n) c ≡ h = let t : h < suc n = omega arith in cond-true (ltb h (suc n)) h 0 (lt-ltb h (suc n) t) in
+  pub walk_fresh : (cells : List (Cell T)) (n : ℕ) (c : Cell T) → n < length cells → c.below ≤ n
+      → list_of blank (set cells n c) (suc n) ≡ c.element ∷ list_of blank cells c.below
+  walk_fresh cells n c within p =
+      let down : lower (suc n) c ≡ c.below = points_down n c p in
       ap (λ (e : Cell T). e.element ∷ walk blank (set cells n c) n (lower (suc n) e)) (get_or-set_same cells n c (blank_cell blank) within)
-      ∙ ap (λ k. x ∷ walk blank (set cells n c) n k) down
-      ∙ ap (λ w. x ∷ w) (walk_set cells n c n h p ∙ walk_fuel cells n h h p (omega arith))
+      ∙ ap (λ k. c.element ∷ walk blank (set cells n c) n k) down
+      ∙ ap (λ w. c.element ∷ w) (walk_set cells n c n c.below p ∙ walk_fuel cells n c.below c.below p (omega arith))
 
-  -- walk: the list of a handle is its cell's element before the list of the lower handle
-  pub walk_next : (cells : List (Cell T)) (h i : ℕ) (c : Cell T) → h ≡ suc i → i < length cells → c ≡ get_or cells i c
-      → walk blank cells h h ≡ c.element ∷ walk blank cells (lower h c) (lower h c)
-  walk_next cells h i c is within read =
-      let falls = lower_falls (suc i) c (omega arith) in
-      let same : get_or cells i (blank_cell blank) ≡ c = get_or_default cells i (blank_cell blank) c within ∙ sym read in
-      rw is (ap (λ (e : Cell T). e.element ∷ walk blank cells i (lower (suc i) e)) same ∙ ap (λ w. c.element ∷ w) (walk_fuel cells i (lower (suc i) c) (lower (suc i) c) (omega arith) (omega arith)))
+  -- walk: the list of a handle is its cell's element before the list of the handle below
+  pub walk_next : (cells : List (Cell T)) (i : ℕ) (c : Cell T) → c ≡ cell_at blank cells i → c.below ≤ i
+      → list_of blank cells (suc i) ≡ c.element ∷ list_of blank cells c.below
+  walk_next cells i c is p =
+      ap (λ (e : Cell T). e.element ∷ walk blank cells i (lower (suc i) e)) (sym is)
+      ∙ ap (λ k. c.element ∷ walk blank cells i k) (points_down i c p)
+      ∙ ap (λ w. c.element ∷ w) (walk_fuel cells i c.below c.below p (omega arith))
+
+  -- walk: no list is longer than its handle
+  pub walk_short : (cells : List (Cell T)) (f h : ℕ) → length (walk blank cells f h) ≤ f
+  walk_short cells zero h = omega arith
+  walk_short cells (suc f) zero = omega arith
+  walk_short cells (suc f) (suc i) = let rest = walk_short cells f (lower (suc i) (cell_at blank cells i)) in omega arith
 
   -- lists_of: which handles have a list
   pub listed : (cells : List (Cell T)) (made h : ℕ) → h ≤ made → h ≤ length cells → lists_of blank cells made h ≡ Some (walk blank cells h h)
@@ -89,15 +78,17 @@ module _ {T : Type 0} (blank : T) where
       (λ below. listed (set cells made c) (made + 1) h (omega arith) (omega arith) ∙ ap Some (walk_set cells made c h h below) ∙ sym (listed cells made h below (omega arith)))
       (cases_lt made h)
 
-  pub extends : (cells : List (Cell T)) (made h : ℕ) (x : T) → h ≤ made → made < whole_of cells
-      → Extended (lists_of blank cells made) (lists_of blank (set cells made (record { element = x; below = h })) (made + 1)) (room_of cells made) (room_of (set cells made (record { element = x; below = h })) (made + 1)) (λ _. 1) h x (Ok (made + 1))
-  extends cells made h x p within =
-      let c : Cell T = record { element = x; below = h } in
+  -- lists_of: one cell more
+  pub extends : (cells : List (Cell T)) (made h : ℕ) (x : T) (c : Cell T) → h ≤ made → made < whole_of cells → c.element ≡ x → c.below ≡ h
+      → Pushed blank cells (set cells made c) made h x
+  extends cells made h x c p within first rest =
       let inside : made < length cells = omega arith in
       let same : length (set cells made c) ≡ length cells = length-set cells made c in
       let old = listed cells made h p (omega arith) in
-      let new : lists_of blank (set cells made c) (made + 1) (made + 1) ≡ Some (x ∷ walk blank cells h h) =
-      listed (set cells made c) (made + 1) (made + 1) (omega arith) (omega arith) ∙ ap Some (rw add-one (walk_fresh cells made h x inside p)) in
+      let fresh : list_of blank (set cells made c) (suc made) ≡ x ∷ list_of blank cells h =
+      walk_fresh cells made c inside (omega arith) ∙ ap (λ y. y ∷ list_of blank cells c.below) first ∙ ap (λ k. x ∷ list_of blank cells k) rest in
+      let new : lists_of blank (set cells made c) (made + 1) (made + 1) ≡ Some (x ∷ list_of blank cells h) =
+      listed (set cells made c) (made + 1) (made + 1) (omega arith) (omega arith) ∙ ap Some (rw add-one fresh) in
       record {
         unlisted = λ none. absurd (some_none old none);
         short = λ l _ less. absurd (omega arith);

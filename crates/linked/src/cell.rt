@@ -1,14 +1,18 @@
 //! The cells that whoever owns the memory lends.
 ghost use Rattle.std.specs.Prelude.{◌≡◌};
-ghost use Rattle.linked.specs.Walk.{blank_cell, lower as lower_handle};
+ghost use Rattle.linked.specs.Walk.{blank_cell};
 
 use store::blank::Blank;
 
-/// An element and the handle of the list below it.
+/// An element and the handle of the list below it, with what makes looks short: how many elements stand under this
+/// one, and the handle of these elements' list cut to a multiple of 8.
+// Handles and counts are 65,535 at most, so that with an element of 8 bytes a cell has 16.
 #[derive(Clone, Copy)]
 pub struct Cell<T> {
     pub(crate) element: T,
-    pub(crate) below: u32,
+    pub(crate) below: u16,
+    pub(crate) skip: u16,
+    pub(crate) under: u16,
 }
 
 impl<T: Blank> Cell<T> {
@@ -19,17 +23,8 @@ impl<T: Blank> Cell<T> {
         Cell {
             element: T::blank(),
             below: 0,
+            skip: 0,
+            under: 0,
         }
-    }
-}
-
-impl<T> Cell<T> {
-    /// Where the list of a handle goes on below this cell.
-    ///
-    /// A lower handle always stands in the cell; the test is what makes every walk end.
-    pub fn lower(&self, handle: u32) -> u32
-        ensures { result ≡ lower_handle handle self.now }
-    {
-        if self.below < handle { self.below } else { 0 }
     }
 }

@@ -1,14 +1,25 @@
--- What the contract of a store becomes where readings stand behind every list.
+-- What a look never answers, and what the contract of a store becomes where readings stand behind every list.
 use Rattle.std.proofs.Common.{◌≡◌, ℕ, ◌+◌, ◌-◌, ◌<◌, ◌≤◌, List, ◌∷◌, ◌++◌, length, get_or, Some, None, Ok, Err, Option, Result, sym, refl, ap, ◌∙◌, ⊎_elim, arith, length-append}
 use Rattle.std.proofs.lemmas.List.{get_or_append_left, get_or-append_right}
 use Rattle.std.proofs.lemmas.Bool.{cases_lt}
-use Rattle.std.specs.Result.{MatchResult}
 use Rattle.store.specs.declared.fault.StoreFault.{StoreFault}
 use Rattle.store.specs.declared.fault.StoreFault.TheVariants.{NoList, NoRoom, Beyond}
 use Rattle.store.specs.Lists.{Lists, Extended, Looked}
 use Rattle.store.proofs.Told.{some_none, some_some, ok_err, cases_option}
 use Rattle.values.specs.declared.Value.{Value}
 use Rattle.readings.specs.Behind.{added, behind, cost_below, Read}
+
+-- look: it takes no room
+pub look_has_room : {E : Type 0} (lists : Lists E) (h i : ℕ) → Looked lists h i (Err NoRoom) → ⊥
+look_has_room lists h i looked =
+    ⊎_elim
+    (λ none. let p = looked.unlisted none in let z : ◌≡◌ {A = ℕ} 0 1 = cc in omega arith)
+    (λ some. let here = looked.listed some.0 some.1 in
+    ⊎_elim
+    (λ within. ok_err (here.found within).1 refl)
+    (λ past. let p = here.beyond past in let z : ◌≡◌ {A = ℕ} 0 1 = cc in omega arith)
+    (cases_lt i (length some.0)))
+    (cases_option (lists h))
 
 module _ (rs : List Value) where
   -- added
@@ -51,7 +62,7 @@ module _ (rs : List Value) where
   }
 
   -- look: an element below
-  looked_ok : (lists : Lists Value) (h i : ℕ) (x : Value) → Looked lists h i (Ok x) → Looked (behind rs lists) h i (Ok x)
+  pub looked_ok : (lists : Lists Value) (h i : ℕ) (x : Value) → Looked lists h i (Ok x) → Looked (behind rs lists) h i (Ok x)
   looked_ok lists h i x below = record {
     unlisted = λ none. below.unlisted (added_none (lists h) none);
     listed = λ m is.
@@ -66,22 +77,22 @@ module _ (rs : List Value) where
         };
   }
 
-  -- look: a refusal other than 33
-  looked_err : (lists : Lists Value) (h i : ℕ) (e : StoreFault) → ((n : ℕ) → e ≡ Beyond n → ⊥) → Looked lists h i (Err e) → Looked (behind rs lists) h i (Err e)
-  looked_err lists h i e other below = record {
-    unlisted = λ none. below.unlisted (added_none (lists h) none);
+  -- look: no list below
+  pub looked_no_list : (lists : Lists Value) (h i : ℕ) → Looked lists h i (Err NoList) → Looked (behind rs lists) h i (Err NoList)
+  looked_no_list lists h i below = record {
+    unlisted = λ none. refl;
     listed = λ m is.
         let front = added_some (lists h) m is in
         let here = below.listed front.0 front.1 in
         ⊎_elim
         (λ within. absurd (ok_err (here.found within).1 refl))
-        (λ past. absurd (other (length front.0) (let p = here.beyond past in cc)))
+        (λ past. let p = here.beyond past in let z : ◌≡◌ {A = ℕ} 0 1 = cc in absurd (omega arith))
         (cases_lt i (length front.0));
   }
 
   -- look: 33 carries the length below, and it is not above the index
-  pub beyond_told : (lists : Lists Value) (h i n : ℕ) (e : StoreFault) → e ≡ Beyond n → Looked lists h i (Err e) → n ≤ i
-  beyond_told lists h i n e is below =
+  pub beyond_told : (lists : Lists Value) (h i n : ℕ) → Looked lists h i (Err (Beyond n)) → n ≤ i
+  beyond_told lists h i n below =
       ⊎_elim
       (λ none. let p = below.unlisted none in let z : ◌≡◌ {A = ℕ} 0 1 = cc in absurd (omega arith))
       (λ some. let here = below.listed some.0 some.1 in
@@ -92,7 +103,7 @@ module _ (rs : List Value) where
       (cases_option (lists h))
 
   -- look: a reading, or 33 with the whole length
-  looked_beyond : (lists : Lists Value) (h i n : ℕ) (r : Result Value StoreFault) → Looked lists h i (Err (Beyond n)) → Read rs n i r → Looked (behind rs lists) h i r
+  pub looked_beyond : (lists : Lists Value) (h i n : ℕ) (r : Result Value StoreFault) → Looked lists h i (Err (Beyond n)) → Read rs n i r → Looked (behind rs lists) h i r
   looked_beyond lists h i n r below read = record {
     unlisted = λ none. let p = below.unlisted (added_none (lists h) none) in let z : ◌≡◌ {A = ℕ} 0 1 = cc in absurd (omega arith);
     listed = λ m is.
@@ -110,17 +121,3 @@ module _ (rs : List Value) where
               (it.0, it.1, it.2 ∙ ap (λ k. get_or rs k it.0) place ∙ sym (get_or-append_right front.0 rs (length front.0) i it.0 refl past) ∙ ap (λ w. get_or w i it.0) (sym front.2));
         };
   }
-
-  -- what becomes of a refusal below
-  pub record Onward (i : ℕ) (e : StoreFault) (r : Result Value StoreFault) : Type 0 where
-    pub no_list : e ≡ NoList → r ≡ Err NoList
-    pub no_room : e ≡ NoRoom → r ≡ Err NoRoom
-    pub beyond : (n : ℕ) → e ≡ Beyond n → Read rs n i r
-
-  -- look: an element below, or what becomes of the refusal there
-  pub looked_onward : (lists : Lists Value) (h i : ℕ) (below r : Result Value StoreFault) (Q : StoreFault → Type 0) → ((e : StoreFault) → Q e → Onward i e r)
-      → Looked lists h i below → MatchResult below (λ x. r ≡ Ok x) Q → Looked (behind rs lists) h i r
-  looked_onward lists h i (Ok x) r Q on l m = rw m (looked_ok lists h i x l)
-  looked_onward lists h i (Err NoList) r Q on l m = rw ((on NoList m).no_list refl) (looked_err lists h i NoList (λ n p. cc) l)
-  looked_onward lists h i (Err NoRoom) r Q on l m = rw ((on NoRoom m).no_room refl) (looked_err lists h i NoRoom (λ n p. cc) l)
-  looked_onward lists h i (Err (Beyond n)) r Q on l m = looked_beyond lists h i n r l ((on (Beyond n) m).beyond n refl)

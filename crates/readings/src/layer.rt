@@ -1,12 +1,13 @@
 //! The layer that lays the readings behind every list of the store below.
-ghost use Rattle.std.specs.Prelude.{◌≡◌, ◌≤◌};
+ghost use Rattle.std.specs.Prelude.{◌≡◌, ◌-◌, ◌≤◌, length, Some};
+ghost use Rattle.std.proofs.Common.{ap, ◌∙◌};
 ghost use Rattle.store.specs.Lists.{Extended, Looked};
-ghost use Rattle.readings.specs.Behind.{values_of, behind, cost_below, Read};
+ghost use Rattle.readings.specs.Behind.{values_of, added, behind, cost_below, Read};
 
 use crate::readings_list::Readings;
-use values::Value;
 use store::contract::{BareStore, Store};
 use store::fault::StoreFault;
+use values::Value;
 
 /// A store of run values with the readings behind every list.
 pub struct ReadingsLayer<S> {
@@ -15,16 +16,17 @@ pub struct ReadingsLayer<S> {
 }
 
 /// The answer at an index beyond the `length` elements below: a reading, or the whole length.
+#[inline]
 fn reading(readings: &Readings, length: u32, index: u32) -> Result<Value, StoreFault>
     requires { length ≤ index }
     ensures { Read (values_of readings.now) length index result }
 {
-    readings
-        .get((index - length) as usize)
-        .map(Value::Number)
-        .ok_or_else(|| StoreFault::Beyond {
+    match readings.get((index - length) as usize) {
+        Some(number) => Ok(Value::Number(number)),
+        None => Err(StoreFault::Beyond {
             length: length + readings.len() as u32,
-        })
+        }),
+    }
 }
 
 impl<S: BareStore + Store<Elem = Value>> ReadingsLayer<S> {
@@ -53,6 +55,7 @@ impl<S: BareStore + Store<Elem = Value>> ReadingsLayer<S> {
     }
 
     /// Extends the list below: the readings stay behind it.
+    #[inline]
     fn extend_below(&mut self, handle: u32, elem: Value) -> Result<u32, StoreFault>
         ensures extended { Extended (behind (values_of self.old.readings) (S.Store.lists self.old.below)) (behind (values_of self.new.readings) (S.Store.lists self.new.below)) (S.Store.room self.old.below) (S.Store.room self.new.below) (cost_below (values_of self.old.readings) (S.Store.cost self.old.below)) handle elem result }
         ensures readings { self.new.readings ≡ self.old.readings }
@@ -63,13 +66,17 @@ impl<S: BareStore + Store<Elem = Value>> ReadingsLayer<S> {
     }
 
     /// Looks into the list below, and then among the readings behind it.
+    #[inline]
     fn look_behind(&self, handle: u32, index: u32) -> Result<Value, StoreFault>
         ensures { Looked (behind (values_of self.now.readings) (S.Store.lists self.now.below)) handle index result }
     {
-        self.below.look(handle, index).or_else(|fault| match fault {
-            StoreFault::Beyond { length } => reading(&self.readings, length, index),
-            other => Err(other),
-        })
+        match self.below.look(handle, index) {
+            Ok(element) => Ok(element),
+            Err(StoreFault::Beyond { length }) => reading(&self.readings, length, index),
+            Err(StoreFault::NoList) => Err(StoreFault::NoList),
+            // A look takes no room.
+            Err(StoreFault::NoRoom) => unreachable!(),
+        }
     }
 }
 
@@ -88,24 +95,28 @@ impl<S: BareStore + Store<Elem = Value>> Store for ReadingsLayer<S> {
 
     ghost wiped = { λ s. S.Store.wiped s.below };
 
-    fn sound(&self) {
-        self.below.sound();
-        self.below.bare();
-    }
+    ghost sound = { λ s. let below = S.Store.sound s.below in record {
+      root = ap (added (values_of s.readings)) (below.root ∙ ap Some (S.BareStore.bare s.below));
+      bounded = below.bounded;
+      within = below.within;
+      charged = λ n. below.charged (n - length (values_of s.readings));
+    } };
 
     fn clear(&mut self) {
         self.below.clear();
-        self.below.bare();
     }
 
+    #[inline]
     fn extend(&mut self, handle: u32, elem: Value) -> Result<u32, StoreFault> {
         self.extend_below(handle, elem)
     }
 
+    #[inline]
     fn look(&self, handle: u32, index: u32) -> Result<Value, StoreFault> {
         self.look_behind(handle, index)
     }
 
+    #[inline]
     fn free(&self) -> u32 {
         self.below.free()
     }

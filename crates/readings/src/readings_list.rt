@@ -40,6 +40,7 @@ impl Readings {
     }
 
     /// How many there are.
+    #[inline]
     pub(crate) fn len(&self) -> usize
         ensures { result ≡ length (numbers_of self.now) }
     {
@@ -47,6 +48,7 @@ impl Readings {
     }
 
     /// The number at a place, where there is one.
+    #[inline]
     pub(crate) fn get(&self, place: usize) -> Option<i32>
         ensures { Picked (numbers_of self.now) place result }
     {

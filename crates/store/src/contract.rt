@@ -28,10 +28,6 @@ pub trait Store {
     /// That nothing ever put in stands in the memory any more; each store says it of its own.
     ghost wiped: { Self → Type 0 };
 
-    /// Does nothing: a call brings what holds of every store into a proof.
-    fn sound(&self)
-        ensures { Sound (lists self.now) (base self.now) (whole self.now) (room self.now) (cost self.now) };
-
     /// Leaves only handle 0, and no element in the memory.
     fn clear(&mut self)
         ensures wiped { wiped self.new }
@@ -54,11 +50,12 @@ pub trait Store {
     /// The free room.
     fn free(&self) -> u32
         ensures { result ≡ room self.now };
+
+    /// What holds of every store at all times.
+    ghost sound: { (s : Self) → Sound (lists s) (base s) (whole s) (room s) (cost s) };
 }
 
 /// A store whose base list is empty.
 pub trait BareStore: Store {
-    /// Does nothing: a call brings the fact into a proof.
-    fn bare(&self)
-        ensures { Self.Store.base self.now ≡ [] };
+    ghost bare: { (s : Self) → Self.Store.base s ≡ [] };
 }

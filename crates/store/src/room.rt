@@ -6,6 +6,7 @@ ghost use Rattle.store.specs.Room.{counted as counted_room};
 const MOST: usize = 65_535;
 
 /// How many of so many places count: none beyond the first 65,535.
+#[inline]
 pub fn counted(places: usize) -> u32
     ensures { result ≡ counted_room places }
 {

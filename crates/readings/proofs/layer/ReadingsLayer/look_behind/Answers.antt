@@ -1,16 +1,26 @@
-use Rattle.std.proofs.Common.{arith, rules}
-use Rattle.std.proofs.iter.Serving.{serving}
 use Rattle.readings.specs.Behind.{values_of}
-use Rattle.readings.proofs.Layered.{beyond_told, looked_onward}
+use Rattle.readings.proofs.Layered.{looked_ok, looked_no_list, looked_beyond, beyond_told, look_has_room}
 use Rattle.readings.proofs.layer.ReadingsLayer.look_behind.Goals as goal
 
-pub or_else-requires : goal.or_else-requires
-or_else-requires g c =
-    let told = beyond_told (values_of c.args.self.now.readings) (g.S.Store.lists c.args.self.now.below) c.args.handle c.args.index in
-    let below = c.look.ensures in
-    grind (serving, arith, told, below)
+pub reading-requires : goal.reading-requires
+reading-requires g c =
+    beyond_told (values_of c.args.self.now.readings) (g.S.Store.lists c.args.self.now.below) c.args.handle c.args.index
+    c.in-Err-Beyond.length (rw c.in-Err-Beyond.field-0-is at c.in-Err-Beyond.ensures)
 
-pub returns : goal.returns
-returns g c =
-    looked_onward (values_of c.args.self.now.readings) (g.S.Store.lists c.args.self.now.below) c.args.handle c.args.index
-    c.look.result c.or_else.result _ (λ e said. search rules) c.look.ensures c.or_else.ensures
+pub returns-in-Err-Beyond : goal.returns-in-Err-Beyond
+returns-in-Err-Beyond g c =
+    looked_beyond (values_of c.args.self.now.readings) (g.S.Store.lists c.args.self.now.below) c.args.handle c.args.index
+    c.in-Err-Beyond.length _ (rw c.in-Err-Beyond.field-0-is at c.in-Err-Beyond.ensures) c.reading.ensures
+
+pub returns-in-Ok : goal.returns-in-Ok
+returns-in-Ok g c =
+    looked_ok (values_of c.args.self.now.readings) (g.S.Store.lists c.args.self.now.below) c.args.handle c.args.index _ c.in-Ok.ensures
+
+pub returns-in-Err-NoList : goal.returns-in-Err-NoList
+returns-in-Err-NoList g c =
+    looked_no_list (values_of c.args.self.now.readings) (g.S.Store.lists c.args.self.now.below) c.args.handle c.args.index
+    (rw c.in-Err-NoList.field-0-is at c.in-Err-NoList.ensures)
+
+pub unreachable-requires : goal.unreachable-requires
+unreachable-requires g c =
+    look_has_room (g.S.Store.lists c.args.self.now.below) c.args.handle c.args.index (rw c.in-Err-NoRoom.field-0-is at c.in-Err-NoRoom.ensures)
