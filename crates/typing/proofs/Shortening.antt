@@ -1,5 +1,5 @@
 -- Links made shorter: the tables say the same. Assumes nothing.
-use Rattle.std.proofs.Common.{length, Bor, ◌≡◌, ℕ, ◌+◌, ◌*◌, ◌<◌, ◌≤◌, ◌≢◌, List, Ok, Err, Result, set, sym, refl, ◌∙◌, subst, ap, arith}
+use Rattle.std.proofs.Common.{length, Bor, ◌≡◌, ℕ, ◌+◌, ◌*◌, ◌<◌, ◌≢◌, List, Ok, Err, Result, set, sym, refl, ◌∙◌, subst, ap, arith}
 use Rattle.calculus.specs.Types.{Ty}
 use Rattle.record.specs.declared.received.Received.{Received}
 use Rattle.typing.specs.declared.clash.Clash.{Clash}

@@ -1,4 +1,4 @@
-use Rattle.std.proofs.Common.{sym, ◌∙◌}
+use Rattle.std.proofs.Common.{◌∙◌}
 use Rattle.typing.proofs.Shortening.{kept_later, kept_there, skipped, found_here}
 use Rattle.typing.proofs.unifier.Unifier.find_and_shorten.Goals as goal
 

@@ -1,4 +1,4 @@
-use Rattle.std.proofs.Common.{length, ◌≡◌, ℕ, ◌+◌, ◌*◌, ◌-◌, ◌<◌}
+use Rattle.std.proofs.Common.{◌≡◌, ℕ, ◌+◌, ◌-◌, ◌<◌}
 use Rattle.calculus.specs.Types.{Ty}
 use Rattle.typing.specs.Classes.{Agrees}
 use Rattle.typing.specs.Unifying.{free, Kept}

@@ -1,5 +1,4 @@
-use Rattle.std.proofs.Common.{◌≡◌, ◌+◌, ◌<◌, ◌≤◌, sym, refl, ◌∙◌, subst, arith}
-use Rattle.syntax.specs.Tree.{nodes}
+use Rattle.std.proofs.Common.{◌≡◌, sym, refl, ◌∙◌, subst, arith}
 use Rattle.calculus.specs.Conditions.{CannotMeet}
 use Rattle.record.specs.Reading.{IsTree}
 use Rattle.record.proofs.Holding.{some_node}

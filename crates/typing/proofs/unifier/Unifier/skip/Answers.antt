@@ -1,5 +1,5 @@
-use Rattle.std.proofs.Common.{sym, refl, arith}
-use Rattle.typing.proofs.Shortening.{kept_same, kept_shorter, link_past}
+use Rattle.std.proofs.Common.{sym}
+use Rattle.typing.proofs.Shortening.{kept_shorter}
 use Rattle.typing.proofs.unifier.Unifier.skip.Goals as goal
 
 pub returns-in-Link-clause-kept : goal.returns-in-Link-clause-kept
