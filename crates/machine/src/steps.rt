@@ -45,8 +45,6 @@ pub struct Machine {
     pub state: State,
 }
 
-// A controller keeps one for each rule that runs.
-const _: () = prove!(size_of::<Machine>() == 3_104);
 
 /// What is told of a sum that is next.
 fn sum_ahead(node: u16, right: Value, left: Value) -> State
