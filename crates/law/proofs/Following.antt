@@ -9,12 +9,11 @@ use Rattle.calculus.specs.Term.{Term}
 use Rattle.calculus.specs.Types.{Ty, RuleHas}
 use Rattle.calculus.specs.Rules.{Leaves}
 use Rattle.calculus.specs.Step.{Next, rests, beyond, stuck, to, step}
-use Rattle.calculus.specs.Stuck.{IsStuck}
 use Rattle.calculus.specs.Stages.{start, stage}
 use Rattle.calculus.specs.Length.{Answer, Length, over, ends, value_answer, answer, told}
 use Rattle.calculus.proofs.Safety.{never_stuck, value_belongs}
 use Rattle.calculus.proofs.Ending.{has_length, not_both}
-use Rattle.calculus.proofs.Reduction.{step_rule, determined}
+use Rattle.calculus.proofs.Reduction.{determined}
 use Rattle.calculus.specs.Values.{is_value}
 use Rattle.calculus.proofs.General.{spelling_tells}
 use Rattle.reckoning.specs.Room.{Room}
@@ -103,12 +102,6 @@ none_told o stuck e = refl
 none_told o (to u) e = refl
 
 -- 3 c
-
-stuck_not : (u : Term) (m : Next) → step u ≡ m → ¬ (m ≡ stuck) → ¬ IsStuck u
-stuck_not u rests e h k = not_both (over u) (ap ends e) k.0
-stuck_not u (beyond n) e h k = not_both (over u) (ap ends e) k.0
-stuck_not u stuck e h k = h refl
-stuck_not u (to v) e h k = k.1 v (step_rule u v e)
 
 same_length : (p : Play) → StandsAtEnd p → length (readings_of p) ≡ p.r
 same_length p end = since_length (play_room p) p.r p.tree (started p.r) p.turns (length-replicate p.r _) end.replies
@@ -214,8 +207,7 @@ held p end =
       typed = end.typed;
       replies = end.replies;
       length = λ readings e. has_length.some_length p.tree end.typed.0 readings (subst (λ n. RuleHas n p.tree end.typed.0) (sym e) end.typed.1);
-      not_stuck = stuck_not (stage p.report.count (first_stage p)) (step (stage p.report.count (first_stage p))) refl
-          (never_stuck p.tree end.typed.0 (readings_of p) (typed_here p end end.typed.0 end.typed.1) p.report.count);
+      not_stuck = never_stuck p.tree end.typed.0 (readings_of p) (typed_here p end end.typed.0 end.typed.1) p.report.count;
       value = λ f e. (value_told p end f e).1;
       belongs = λ f e τ h. value_belongs p.tree τ (readings_of p) (typed_here p end τ h) p.report.count (value_told p end f e).0;
       range = range_told p end;

@@ -1,7 +1,6 @@
 pub mod Placing
 pub mod Stacking
 pub mod Entering
-pub mod Fusing
 pub mod Settling
 pub mod Keeping
 pub mod Ranges

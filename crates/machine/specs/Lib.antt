@@ -4,4 +4,3 @@ pub mod Opens
 pub mod Standing
 pub mod Reducing
 pub mod Running
-pub mod Fused

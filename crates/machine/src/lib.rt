@@ -7,7 +7,6 @@
 //! Proved: over every store, the machine stands where the run is reckoned on plain lists, step for step.
 #![tactic(auto)]
 
-pub mod fused;
 pub mod operation;
 pub mod operations;
 pub mod reduce;

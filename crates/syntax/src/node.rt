@@ -7,7 +7,7 @@ use crate::kind::Kind;
 
 /// A node, its children by their places in the table.
 ///
-/// A table has at most 512 nodes and a record two bytes for a distance, so that 16 bits hold either.
+/// No table has more than 513 nodes, and a record has two bytes for a distance: 16 bits hold either.
 // Kept: boxes would need a heap, and a controller has none.
 #[derive(Clone, Copy, Debug, PartialEq, Eq)]
 pub enum Node {
@@ -23,7 +23,7 @@ pub enum Node {
     IfElse(u16, u16, u16),
 }
 
-// A controller keeps a table for each of its rules.
+// A controller keeps a table of 512 for each of its rules.
 const _: () = prove!(size_of::<Node>() == 8);
 
 impl Default for Node {

@@ -138,8 +138,8 @@ fn own_of(node: Node, around: usize) -> Own {
         Node::Sum(_, _) => Own::Told("a sum is an int"),
         Node::AtMost(_, _) => Own::Told("a comparison is a bool"),
         Node::Function(_) => Own::Told("`fun` makes a function"),
-        Node::Variable(distance) if usize::from(distance) >= around => Own::Told("a reading is an int"),
-        Node::Variable(_) => Own::Opened,
+        Node::Variable(distance) if usize::from(distance) < around => Own::Opened,
+        Node::Variable(_) => Own::Told("a reading is an int"),
         Node::Application(_, _) | Node::LetIn(_, _) | Node::IfElse(_, _, _) => Own::Any,
     }
 }

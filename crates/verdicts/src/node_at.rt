@@ -23,7 +23,7 @@ impl<'a> NodeAt<'a> {
     /// The last node of the tree that begins here.
     pub(crate) fn last_below(self) -> NodeAt<'a> {
         let nodes = self.nodes;
-        let at = iter::successors(Some(self.at), |at| last_child(*nodes.get(*at)?).map(usize::from))
+        let at = iter::successors(Some(self.at), |at| last_child(*nodes.get(*at)?))
             .take(nodes.len())
             .last()
             .unwrap_or(self.at);
@@ -40,12 +40,12 @@ impl<'a> NodeAt<'a> {
 }
 
 /// The last child of a node, where it has any.
-fn last_child(node: Node) -> Option<u16> {
+fn last_child(node: Node) -> Option<usize> {
     match node {
         Node::Number(_) | Node::Truth(_) | Node::Variable(_) => None,
-        Node::Function(last) => Some(last),
-        Node::Application(_, last) | Node::LetIn(_, last) => Some(last),
-        Node::Sum(_, last) | Node::AtMost(_, last) => Some(last),
-        Node::IfElse(_, _, last) => Some(last),
+        Node::Function(last) => Some(usize::from(last)),
+        Node::Application(_, last) | Node::LetIn(_, last) => Some(usize::from(last)),
+        Node::Sum(_, last) | Node::AtMost(_, last) => Some(usize::from(last)),
+        Node::IfElse(_, _, last) => Some(usize::from(last)),
     }
 }

@@ -8,8 +8,8 @@ use Rattle.reckoning.specs.Reckoning.{begun}
 use Rattle.run.proofs.Layer.{as_values_injective, cost_below_injective, cleared_begins}
 use Rattle.run.proofs.calls.begin.Goals as goal
 
-pub begin-requires-clause-begins : goal.begin-requires-clause-begins
-begin-requires-clause-begins g c =
+pub begin-requires : goal.begin-requires
+begin-requires g c =
     let rule = c.rule.invariant in
     let readings = numbers_of c.clear.new.self.readings in
     let begins =
