@@ -55,6 +55,11 @@ where
         .map_err(|_| Trouble::Unreadable(T::WANTED))
 }
 
+/// Numbers that are joined by colons.
+pub(crate) fn numbers(heap: Global, field: &str) -> Result<Vec<i32>, Trouble> {
+    field.split(':').map(|figure| number(figure)).try_collect(heap)
+}
+
 /// What a field has, unless it is `-`, which stands for nothing.
 pub(crate) fn given<'a>(field: &'a str) -> Option<&'a str> {
     (field != "-").then_some(field)

@@ -7,10 +7,14 @@
 mod accept_lines;
 mod calls;
 mod compile_lines;
+mod environments;
 mod fields;
 mod lines;
+mod memory;
+mod run_lines;
 mod store_lines;
 mod trouble;
+mod turns;
 
 use std::io;
 use std::io::{BufRead, BufReader};

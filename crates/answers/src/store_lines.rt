@@ -1,57 +1,47 @@
 //! Lines of the kind `store`: `STORE SIZE LAYER CALLS`, where LAYER is `-` or the readings of a
 //! layer above the store, and the calls are `c`, `eH:V`, `lH:I` and `f`.
 use crate::calls::{Answer, Call};
-use crate::fields::{Fields, given, number};
+use crate::fields::{Fields, given, numbers};
+use crate::memory::{Memory, OnStore};
 use crate::trouble::Trouble;
-use flat::flat_store::FlatStore;
-use flat::slot::Slot;
-use linked::cell::Cell;
-use linked::linked::LinkedStore;
 use readings::layer::ReadingsLayer;
 use readings::readings_list::Readings;
-use values::Value;
 use std::alloc::{AllocError, Global};
-use store::blank::Blank;
 use store::contract::{BareStore, Store};
 use store::fault::StoreFault;
+use values::Value;
+
+/// The layer above a store and the calls, as a line has them.
+#[derive(Clone, Copy)]
+struct Line<'a> {
+    layer: &'a str,
+    calls: &'a str,
+}
 
 /// Answers the calls of one line on a store of its own.
 pub(crate) fn answer(heap: Global, mut fields: Fields) -> Result<String, Trouble> {
-    let kind = fields.next();
-    let size = number(fields.next())?;
+    let memory = Memory::read(&mut fields)?;
     let layer = fields.next();
     let calls = fields.last();
-    match kind {
-        "linked" => {
-            let mut cells = vec![in heap; Cell::blank(); size]?;
-            on_store(heap, LinkedStore::new(&mut cells), layer, calls)
-        }
-        "flat" => {
-            let mut slots = vec![in heap; Slot::Spare; size]?;
-            on_store(heap, FlatStore::new(&mut slots), layer, calls)
-        }
-        _ => Err(Trouble::Unreadable("no such store")),
-    }
+    memory.lend(heap, Line { layer, calls })
 }
 
-/// Lays the readings over the store, where the line has a layer.
-fn on_store<S: BareStore + Store<Elem = Value> + Drop>(
-    heap: Global,
-    mut store: S,
-    layer: &str,
-    calls: &str,
-) -> Result<String, Trouble> {
-    let Some(layer) = given(layer) else {
-        return answer_calls(heap, &mut store, calls);
-    };
-    let numbers: Vec<i32> = layer
-        .split(':')
-        .map(|reading| number(reading))
-        .try_collect(heap)?;
-    let mut layered = ReadingsLayer::new(store, Readings::new(numbers.as_slice()));
-    let answers = answer_calls(heap, &mut layered, calls);
-    drop(layered.into_below());
-    answers
+impl OnStore for Line<'_> {
+    /// Lays the readings over the store, where the line has a layer.
+    fn on<S: BareStore + Store<Elem = Value> + Drop>(
+        self,
+        heap: Global,
+        mut store: S,
+    ) -> Result<String, Trouble> {
+        let Some(layer) = given(self.layer) else {
+            return answer_calls(heap, &mut store, self.calls);
+        };
+        let numbers = numbers(heap, layer)?;
+        let mut layered = ReadingsLayer::new(store, Readings::new(numbers.as_slice()));
+        let answers = answer_calls(heap, &mut layered, self.calls);
+        drop(layered.into_below());
+        answers
+    }
 }
 
 /// The answers to all calls, joined by `; `.
