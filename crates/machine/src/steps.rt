@@ -45,7 +45,6 @@ pub struct Machine {
     pub state: State,
 }
 
-
 /// What is told of a sum that is next.
 fn sum_ahead(node: u16, right: Value, left: Value) -> State
     ensures { result ≡ sum_is_ahead node right left }
