@@ -1,8 +1,8 @@
 //! The calls of a store and their answers, as lines have them.
 use crate::fields::number;
 use crate::trouble::Trouble;
-use values::Value;
 use std::fmt;
+use values::Value;
 
 /// A call of a store.
 #[derive(Clone, Copy)]

@@ -57,7 +57,10 @@ where
 
 /// Numbers that are joined by colons.
 pub(crate) fn numbers(heap: Global, field: &str) -> Result<Vec<i32>, Trouble> {
-    field.split(':').map(|figure| number(figure)).try_collect(heap)
+    field
+        .split(':')
+        .map(|figure| number(figure))
+        .try_collect(heap)
 }
 
 /// What a field has, unless it is `-`, which stands for nothing.

@@ -74,7 +74,11 @@ impl OnStore for Line {
         let Line { rule, calls, after } = self;
         let whole = store.free();
         let mut turns: Vec<Turn> = calls.iter().map(|call| call.turn()).collect(heap)?;
-        let Played { rule: _, store, report: _ } = play(rule, store, &mut turns);
+        let Played {
+            rule: _,
+            store,
+            report: _,
+        } = play(rule, store, &mut turns);
         let mut told: Vec<String> = turns
             .iter()
             .map(|turn| Told(turn.reply).to_string(heap))
