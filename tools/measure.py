@@ -98,6 +98,13 @@ def far(n, end=None):
     return functions(k + 1)[:k] + b"\x08" * m + variable(k - 1) * m + (end or variable(k - 1))
 
 
+def far_chosen(n):
+    # the like with ifs, and not the rule's own type, so that it need not be spelled
+    k = n // 2
+    m = (n - k - 3) // 3
+    return b"\x07" + functions(k + 1)[:k] + (b"\x0a" + variable(k - 1) * 2) * m + variable(k - 1) + number(1)
+
+
 def itself(d):
     return b"\x06" + variable(d) * 2
 
@@ -112,6 +119,7 @@ GOOD = [
     ("`f x x x ..`", applied),
     ("`let e = fun x -> x in if true then e else if true then e else .. e`", chosen),
     ("`fun a -> fun b -> .. a + a + ..`", far),
+    ("`let g = fun a -> fun b -> .. if a then a else if a then a .. in 1`", far_chosen),
 ]
 
 REFUSED = [
