@@ -31,6 +31,7 @@ pub enum Sought {
 }
 
 /// The node at a place.
+#[inline]
 pub fn node(nodes: &[Node], place: u16) -> Node
     requires { place < length nodes.now }
     ensures { result ≡ node_at nodes.now place }
@@ -39,6 +40,7 @@ pub fn node(nodes: &[Node], place: u16) -> Node
 }
 
 /// A number, as a value.
+#[inline]
 pub fn number_value(number: i32) -> Value
     ensures { result ≡ Number number }
 {
@@ -46,6 +48,7 @@ pub fn number_value(number: i32) -> Value
 }
 
 /// Enters a node: it has a value, or its operation is opened.
+#[inline(always)]
 pub fn enter<W: Store<Elem = Value>>(
     nodes: &[Node],
     store: &W,
@@ -120,6 +123,7 @@ pub fn enter<W: Store<Elem = Value>>(
 }
 
 /// Seeks a value downwards, from a node on.
+#[inline(always)]
 pub fn seek<W: Store<Elem = Value>>(
     nodes: &[Node],
     store: &W,

@@ -35,6 +35,7 @@ pub enum Settled {
 }
 
 /// Hands a value that was found to the innermost operation: a right operand gives way to the left one.
+#[inline(always)]
 pub fn give_way(table: &mut Operations, value: Value) -> Way
     ensures { (ns : List Nodes) (lists : Lists RunValue) (w : Work) → HasFound ns lists table.old value w → GivesWay ns lists table.old table.new value result w }
 {
@@ -85,6 +86,7 @@ pub fn give_way(table: &mut Operations, value: Value) -> Way
 }
 
 /// Comes back with a value through the open operations, to one that is ready to be reduced.
+#[inline(always)]
 pub fn settle<W: Store<Elem = Value>>(
     nodes: &[Node],
     store: &W,

@@ -46,6 +46,7 @@ pub struct Machine {
 }
 
 /// What is told of a sum that is next.
+#[inline]
 fn sum_ahead(node: u16, right: Value, left: Value) -> State
     ensures { result ≡ sum_is_ahead node right left }
 {
@@ -62,6 +63,7 @@ fn sum_ahead(node: u16, right: Value, left: Value) -> State
 }
 
 /// What is told of the reduction that is next.
+#[inline]
 fn ahead(table: &Operations, value: Value) -> State
     requires { 0 < table.now.depth }
     ensures { (ns : List Nodes) (lists : Lists Value_) (w : Work) → Readied ns lists table.now value w → state_of result ≡ next_state w (move w) }
@@ -84,6 +86,7 @@ impl Machine {
     }
 
     /// Comes back with a value that was found, to where the run waits or ends.
+    #[inline(always)]
     fn come_back<W: Store<Elem = Value>>(&mut self, nodes: &[Node], store: &W, value: Value)
         requires { (w : Work) × HasFound nodes.now (W.Store.lists store.now) self.old.table value w × (move w ≢ stuck) }
         ensures rests { (w : Work) → HasFound nodes.now (W.Store.lists store.now) self.old.table value w → Rests nodes.now (W.Store.lists store.now) self.new w }
@@ -100,6 +103,7 @@ impl Machine {
     }
 
     /// Goes to a node that is to be met, and on to where the run waits or ends.
+    #[inline(always)]
     fn go_to<W: Store<Elem = Value>>(
         &mut self,
         nodes: &[Node],
@@ -128,6 +132,7 @@ impl Machine {
     }
 
     /// One granted step of a run that waits.
+    #[inline(always)]
     fn step<W: Store<Elem = Value>>(&mut self, nodes: &[Node], store: &mut W)
         requires waits { self.old.state ≡ Waiting }
         requires low { self.old.count < 4294967295 }
