@@ -12,9 +12,9 @@ use Rattle.record.specs.Nodes.{node_at}
 use Rattle.calculus.specs.Term.{Term}
 use Rattle.reckoning.specs.Environments.{Env}
 use Rattle.reckoning.specs.Environments as plain
-use Rattle.reckoning.specs.Work.{Work, done, unbound, found, met}
+use Rattle.reckoning.specs.Work.{Work, unbound, found, met}
 use Rattle.reckoning.specs.Moves.{move, stuck}
-use Rattle.reckoning.specs.Contexts.{Open, argument, applied, bound, sum_right, sum_left, compare_right, compare_left, condition, inside, plugged}
+use Rattle.reckoning.specs.Contexts.{Open, argument, applied, sum_right, sum_left, compare_right, compare_left, inside, plugged}
 use Rattle.machine.specs.declared.operation.Operation.TheVariants.{Applied, SumLeft, CompareLeft}
 use Rattle.machine.specs.declared.operations.Operations.{Operations}
 use Rattle.machine.specs.Places.{At, BodyOf}

@@ -10,3 +10,4 @@ pub mod Telling
 pub mod Granting
 pub mod Beginning
 mod Fusing
+mod Going

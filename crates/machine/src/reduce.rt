@@ -29,6 +29,7 @@ pub enum Reduced {
 }
 
 /// Puts a value before an environment, and enters a body in it.
+#[inline(always)]
 fn enter_body<W: Store<Elem = Value>>(
     store: &mut W,
     table: &mut Operations,
@@ -57,6 +58,7 @@ fn enter_body<W: Store<Elem = Value>>(
 }
 
 /// A function is applied to its argument.
+#[inline(always)]
 fn apply<W: Store<Elem = Value>>(
     nodes: &[Node],
     store: &mut W,
@@ -85,6 +87,7 @@ fn apply<W: Store<Elem = Value>>(
 }
 
 /// A let binds its value.
+#[inline(always)]
 fn bind<W: Store<Elem = Value>>(
     nodes: &[Node],
     store: &mut W,
@@ -104,6 +107,7 @@ fn bind<W: Store<Elem = Value>>(
 }
 
 /// Two numbers are added.
+#[inline(always)]
 fn add<W: Store<Elem = Value>>(
     nodes: &[Node],
     store: &W,
@@ -131,6 +135,7 @@ fn add<W: Store<Elem = Value>>(
 }
 
 /// Two numbers are compared.
+#[inline(always)]
 fn compare<W: Store<Elem = Value>>(
     nodes: &[Node],
     store: &W,
@@ -153,6 +158,7 @@ fn compare<W: Store<Elem = Value>>(
 }
 
 /// A branch is chosen.
+#[inline(always)]
 fn choose<W: Store<Elem = Value>>(
     nodes: &[Node],
     store: &W,
@@ -177,6 +183,7 @@ fn choose<W: Store<Elem = Value>>(
 }
 
 /// Reduces the innermost operation with the value that was found for its operand.
+#[inline(always)]
 pub fn reduce<W: Store<Elem = Value>>(
     nodes: &[Node],
     store: &mut W,
