@@ -1,19 +1,25 @@
 #!/usr/bin/env python3
 """Times compile and accept, and finds the stack that they need, on texts and records that were made to be hard.
 
-Run it in the checkout once `rt run` has built crates/answers and crates/fun. It prints the tables of docs/MEASURES.md.
-A time is the mean over many equal lines in one process, less that of as many lines that are refused at their first byte.
-The stack is the least `ulimit -s`, in steps of 8 KiB, with which `fun` ends with its answer.
+    measure.py                       both tables of docs/MEASURES.md
+    measure.py compile               the first alone
+    measure.py accept [CHECKOUT ..]  the second alone, beside the same of other checkouts
+
+Run it in a checkout once `rt run` has built crates/answers (and crates/fun, for compile). A time is processor time: the
+mean over many equal lines in one process, less that of as many lines that are refused at their first byte, and of several
+such processes the least. The stack is the least `ulimit -s`, in steps of 4 KiB, with which `fun` (compile) or `answers`
+(accept) ends with its answer.
 """
 import os
+import resource
 import subprocess
 import sys
 import tempfile
-import time
 
 TOP = os.path.dirname(os.path.dirname(os.path.abspath(__file__)))
-ANSWERS = os.path.join(TOP, "crates/answers/out/answers")
+ANSWERS = "crates/answers/out/answers"
 FUN = os.path.join(TOP, "crates/fun/out/fun")
+SIZES = (64, 128, 256, 512)
 
 TEXTS = [
     ("4,096 times `(`", "(" * 4096),
@@ -79,86 +85,141 @@ def branches(n):
     return b"\x0a\x03" + pairs(k, variable(0)) * 2
 
 
-RECORDS = [
+def chosen(n, end=variable(0)):
+    # let e = fun x -> x in if true then e else if true then e else .. end
+    k = (n - 3 - (1 if len(end) == 3 else 3)) // 3
+    return b"\x07" + functions(2) + (b"\x0a\x03" + variable(0)) * k + end
+
+
+def far(n, end=None):
+    # as many functions as sums and uses of the outermost name
+    k = n // 2
+    m = (n - k - 1) // 2
+    return functions(k + 1)[:k] + b"\x08" * m + variable(k - 1) * m + (end or variable(k - 1))
+
+
+def far_chosen(n):
+    # the like with ifs, and not the rule's own type, so that it need not be spelled
+    k = n // 2
+    m = (n - k - 3) // 3
+    return b"\x07" + functions(k + 1)[:k] + (b"\x0a" + variable(k - 1) * 2) * m + variable(k - 1) + number(1)
+
+
+def itself(d):
+    return b"\x06" + variable(d) * 2
+
+
+GOOD = [
     ("`fun a -> fun b -> ..`, the last name used", functions),
     ("pairs of pairs: `let p = fun f -> f p p in ..`", lambda n: pairs((n - 1) // 7, variable(0))),
     ("two such, in both branches of an `if`", branches),
-    ("pairs of pairs, then `p p`", lambda n: pairs((n - 3) // 7, b"\x06" + variable(0) * 2)),
     ("`let a = x in let b = a in ..`", lets),
     ("`1 + 1 + ..`, grouped to the left", sums),
     ("`f (f (.. x))`", nested),
     ("`f x x x ..`", applied),
+    ("`let e = fun x -> x in if true then e else if true then e else .. e`", chosen),
+    ("`fun a -> fun b -> .. a + a + ..`", far),
+    ("`let g = fun a -> fun b -> .. if a then a else if a then a .. in 1`", far_chosen),
+]
+
+REFUSED = [
+    ("pairs of pairs, then `p p`", lambda n: pairs((n - 3) // 7, itself(0))),
+    ("`let e = fun x -> x in if true then e else .. e e`", lambda n: chosen(n, itself(0))),
+    ("`fun a -> fun b -> .. a + a + .. + a a`", lambda n: far(n - 2, itself((n - 2) // 2 - 1))),
+    ("`1 + 1 + .. + true`", lambda n: b"\x08" * ((n - 1) // 2) + number(1) * ((n - 1) // 2) + b"\x03"),
+    ("`let a = fun x -> x x in 1 + 1 + ..`", lambda n: b"\x07\x05" + itself(0) + sums(n - 5)),
+    ("`true + 1 + 1 + ..`", lambda n: b"\x08" * ((n - 1) // 2) + b"\x03" + number(1) * ((n - 1) // 2)),
 ]
 
 
-def run(lines):
+def run(program, lines):
     with tempfile.TemporaryFile() as given:
         given.write("".join(line + "\n" for line in lines).encode())
         given.seek(0)
-        begun = time.perf_counter()
-        done = subprocess.run([ANSWERS], stdin=given, stdout=subprocess.PIPE, check=True)
-        return time.perf_counter() - begun, done.stdout.decode().split("\n")[0]
+        before = resource.getrusage(resource.RUSAGE_CHILDREN)
+        done = subprocess.run([program], stdin=given, stdout=subprocess.PIPE, check=True)
+        after = resource.getrusage(resource.RUSAGE_CHILDREN)
+        spent = after.ru_utime + after.ru_stime - before.ru_utime - before.ru_stime
+        return spent, done.stdout.decode().split("\n")[0]
 
 
-def mean(line, idle, times):
-    base = min(run([idle] * times)[0] for _ in range(3))
-    spent = [run([line] * times) for _ in range(3)]
-    return max(0.0, min(s[0] for s in spent) - base) / times, spent[0][1]
+def mean(program, line, idle):
+    first, answer = run(program, [line] * 100)
+    times = max(100, min(4000, int(0.1 / (first / 100 + 1e-9))))
+    base = min(run(program, [idle] * times)[0] for _ in range(5))
+    spent = min(run(program, [line] * times)[0] for _ in range(5))
+    return max(0.0, spent - base) / times, answer
 
 
-def ends(words, given, kib):
-    script = "ulimit -s %d; exec \"$@\"" % kib
-    done = subprocess.run(["bash", "-c", script, "bash", FUN] + words + [given], stdout=subprocess.PIPE,
-                          stderr=subprocess.PIPE)
-    return done.returncode in (0, 1)
-
-
-def stack(words, data):
-    with tempfile.NamedTemporaryFile(delete=False) as file:
-        file.write(data)
+def stack(words, given):
     low, high = 8, 16384
-    while high - low > 8:
-        mid = (low + high) // 16 * 8
-        if words[0] == "compile":
-            fits = ends_compile(file.name, mid)
-        else:
-            fits = ends(words, file.name, mid)
-        low, high = (low, mid) if fits else (mid, high)
-    os.unlink(file.name)
+    while high - low > 4:
+        mid = (low + high) // 8 * 4
+        # Addresses are left as they are: a stack that begins elsewhere in each run is now longer, now shorter.
+        script = "ulimit -s %d; exec setarch -R \"$@\"" % mid
+        with open(given) as lines:
+            done = subprocess.run(["bash", "-c", script, "bash"] + words, stdin=lines, stdout=subprocess.PIPE,
+                                  stderr=subprocess.PIPE)
+        low, high = (low, mid) if done.returncode in (0, 1) else (mid, high)
     return high
 
 
-def ends_compile(name, kib):
-    script = "ulimit -s %d; exec \"$@\"" % kib
-    done = subprocess.run(["bash", "-c", script, "bash", FUN, "compile", name, "f", "i"], stdout=subprocess.PIPE,
-                          stderr=subprocess.PIPE)
-    return done.returncode in (0, 1)
+def stack_on(words, data, named):
+    with tempfile.NamedTemporaryFile(delete=False) as file:
+        file.write(data)
+    least = stack([file.name if word == named else word for word in words], file.name)
+    os.unlink(file.name)
+    return format(least, ",")
 
 
 def short(answer):
     return answer if len(answer) < 40 else answer[:36] + " .."
 
 
-def main():
+def compile_table():
     print("| text | answer | time | stack |\n|---|---|---|---|")
     for name, text in TEXTS:
         names = "66,69"
         line = "compile %s 4096 %s" % (names, text.encode().hex())
         idle = "compile %s 4096 %s" % (names, ("#" + text[1:]).encode().hex())
-        spent, answer = mean(line, idle, 400)
-        print("| %s | %s | %.0f µs | %s KiB |" % (name, short(answer), spent * 1e6,
-                                                  format(stack(["compile"], text.encode()), ",")))
-    print("\n| record | 64 nodes | 128 | 256 | 512 | answer at 512 | stack at 512 |\n|---|---|---|---|---|---|---|")
-    for name, make in RECORDS:
-        row = []
-        for n in (64, 128, 256, 512):
+        spent, answer = mean(os.path.join(TOP, ANSWERS), line, idle)
+        words = [FUN, "compile", "TEXT", "f", "i"]
+        print("| %s | %s | %.0f µs | %s KiB |" % (name, short(answer), spent * 1e6, stack_on(words, text.encode(), "TEXT")))
+
+
+def accept_row(name, make, programs):
+    cells = [name]
+    stacks = []
+    for program in programs:
+        spent = []
+        for n in SIZES:
             made = record(make(n))
             line = "accept 1538 1538 2000 " + made.hex()
             idle = "accept 1538 1538 2000 " + (b"\xff\xff" + made[2:]).hex()
-            spent, answer = mean(line, idle, 100)
-            row.append("%.1f ms" % (spent * 1e3))
-        print("| %s | %s | %s | %s KiB |" % (name, " | ".join(row), short(answer),
-                                             format(stack(["check", "--record"], made), ",")))
+            took, answer = mean(program, line, idle)
+            spent.append(took)
+        cells += ["%.0f" % (took * 1e6) for took in spent] + ["%.1f" % (spent[-1] / spent[-2])]
+        stacks.append(stack_on([program], (line + "\n").encode(), None))
+    return "| " + " | ".join(cells + [short(answer), " / ".join(stacks)]) + " |"
 
 
-sys.exit(main())
+def accept_table(checkouts):
+    programs = [os.path.join(top, ANSWERS) for top in checkouts]
+    sizes = ["%d nodes" % SIZES[0]] + [str(n) for n in SIZES[1:]] + ["twice"]
+    head = ["record, times in µs"] + sizes * len(programs) + ["answer at 512", "stack at 512, KiB"]
+    for records in (GOOD, REFUSED):
+        print("| " + " | ".join(head) + " |\n" + "|---" * len(head) + "|")
+        for name, make in records:
+            print(accept_row(name, make, programs), flush=True)
+        print()
+
+
+def main(words):
+    if words[:1] != ["accept"]:
+        compile_table()
+        print()
+    if words[:1] != ["compile"]:
+        accept_table(words[1:] + [TOP])
+
+
+sys.exit(main(sys.argv[1:]))

@@ -13,6 +13,7 @@ ghost use Rattle.arithmetic.specs.Sums.{as_result};
 pub struct OutOfRange;
 
 /// The sum of two numbers, where it is within the range.
+#[inline]
 pub fn sum(left: i32, right: i32) -> Result<i32, OutOfRange>
     ensures { result ≡ as_result (sum_of left right) }
 {

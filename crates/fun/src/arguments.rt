@@ -1,5 +1,7 @@
 //! What the words of a call ask for.
 use crate::failure::Failure;
+use crate::run_arguments;
+use crate::run_arguments::Attempt;
 use crate::usage::SEE_HELP;
 use messages::file::STANDARD_INPUT;
 use messages::rule_text::Origin;
@@ -24,11 +26,12 @@ pub enum Command<'a> {
     Check(Origin<'a>),
     /// The type of the record in a file.
     CheckRecord(&'a str),
+    Run(Attempt<'a>),
 }
 
 /// A word behind a command.
 #[derive(Clone, Copy)]
-enum Word<'a> {
+pub(crate) enum Word<'a> {
     Help,
     Option(&'a str),
     /// A file or a name.
@@ -88,15 +91,18 @@ pub(crate) fn read_call<'a>(heap: Global, words: &'a [String]) -> Result<Command
         "explain" => explain(heap, words),
         "compile" => compile(heap, words),
         "check" => check(heap, words),
+        "run" => run_arguments::run(heap, words),
         other => Err(wrong(
             heap,
-            format_args!("there is no command `{other}`: it is compile, check, explain or help"),
+            format_args!(
+                "there is no command `{other}`: it is run, compile, check, explain or help"
+            ),
         )),
     }
 }
 
 /// A wrong call.
-fn wrong(heap: Global, why: impl Display + Drop) -> Failure {
+pub(crate) fn wrong(heap: Global, why: impl Display + Drop) -> Failure {
     Failure::told(heap, &format_args!("error: {why}\n  = help: {SEE_HELP}\n"))
 }
 

@@ -1,10 +1,10 @@
 //! The command `check`, from the file to the type.
 use crate::compiling::{Fetched, record_of};
+use crate::counted::Counted;
 use crate::failure::Failure;
 use crate::record_file::fetch;
 use messages::rule_text::Origin;
 use std::alloc::{AllocError, Global};
-use std::fmt;
 use verdicts::verdict::{Accepted, verdict_on};
 
 /// Compiles a text, and prints the type of its rule.
@@ -40,16 +40,4 @@ fn told(heap: Global, file: &str, bytes: usize, rule: &Accepted) -> Result<Strin
     let nodes = Counted(rule.nodes, "node");
     let readings = Counted(rule.readings, "reading");
     format!(in heap; "{file}: {type_words}\n{bytes}, {nodes}, {readings}\n")
-}
-
-/// A count with its noun, which gets an s unless there is one of it.
-#[derive(Clone, Copy)]
-struct Counted(usize, &'static str);
-
-impl fmt::Display for Counted {
-    fn fmt<W: fmt::Write>(&self, f: &mut fmt::Formatter<W>) -> fmt::Result {
-        let Counted(count, noun) = *self;
-        let plural = if count == 1 { "" } else { "s" };
-        write!(f, "{count} {noun}{plural}")
-    }
 }

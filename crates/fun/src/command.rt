@@ -3,7 +3,7 @@ use crate::arguments::{Command, read_call};
 use crate::explain::{KNOWN, explanation};
 use crate::failure::Failure;
 use crate::usage::USAGE;
-use crate::{checking, compiling};
+use crate::{checking, compiling, running};
 use std::alloc::Global;
 use std::env;
 
@@ -17,6 +17,7 @@ pub(crate) fn run(rt: &HostRuntime) -> Result<String, Failure> {
         Command::Compile(request) => compiling::compile(rt, &request),
         Command::Check(origin) => checking::check(rt, &origin),
         Command::CheckRecord(file) => checking::check_record(rt, file),
+        Command::Run(attempt) => running::run(rt, &attempt),
     }
 }
 

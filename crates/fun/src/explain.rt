@@ -2,11 +2,11 @@
 use crate::accept_explained;
 
 /// The numbers that can be explained, in words.
-pub const KNOWN: &str = "1 to 12, 31 to 33, 51 to 55 and 57 to 59";
+pub const KNOWN: &str = "1 to 12, 20 to 22, 31 to 33, 51 to 55 and 57 to 59";
 
 /// What each refusal means, its number first.
 // Kept: the limits stand in these texts as people read them, since a constant text cannot be made from numbers.
-const EXPLANATIONS: [&str; 23] = [
+const EXPLANATIONS: [&str; 26] = [
     accept_explained::LENGTH,
     accept_explained::VERSION,
     accept_explained::READINGS,
@@ -19,6 +19,9 @@ const EXPLANATIONS: [&str; 23] = [
     accept_explained::SHORT_TABLE,
     accept_explained::NO_TYPE,
     accept_explained::SHORT_BUFFER,
+    WRONG_COUNT,
+    NOT_WAITING,
+    WRONG_STEPS,
     NO_LIST,
     NO_FREE_ROOM,
     NO_ELEMENT,
@@ -38,6 +41,30 @@ pub(crate) fn explanation(number: &str) -> Option<&'static str> {
         .split_once(": ")
         .is_some_and(|(known, _)| known == number))
 }
+
+const WRONG_COUNT: &str = "\
+20: these are not as many readings as the rule has
+
+A run begins anew with a number for each reading of its rule. The run is as it was. The place is 0.
+Only the library refuses so: this program takes the names of the readings from their values.
+";
+
+const NOT_WAITING: &str = "\
+21: the run does not wait for steps
+
+Steps are granted while a step is next. The rule is worked out, a sum leaves the number range, or the
+run is short of room or of stack: then nothing is granted, and the run is as it was. The place is 0.
+
+    fun run --slots 2,2 defrost.fun coil=80
+    slot 2 is refused: the rule took 2 steps
+";
+
+const WRONG_STEPS: &str = "\
+22: so many steps cannot be granted
+
+From its beginning on, a run may be granted 1 step or more at a time, and 1000000000 in all. Nothing is
+granted, and the run is as it was. The place is 0.
+";
 
 const NO_LIST: &str = "\
 31: the handle has no list

@@ -1,8 +1,8 @@
-//! The program `fun`: compiles and checks rule texts for people who write them.
+//! The program `fun`: compiles, checks and runs rule texts for people who write them.
 //!
-//! Words go in, a record, a type or an explanation comes out. The libraries judge the text and the
-//! record; what is done here is to read the words, to fetch the file and to say clearly what is
-//! wrong with it.
+//! Words go in, a record, a type, an answer or an explanation comes out. The libraries judge the text
+//! and the record and run the rule; what is done here is to read the words, to fetch the file and to
+//! say clearly what is wrong with it.
 #![tactic(auto)]
 
 mod accept_explained;
@@ -10,9 +10,13 @@ mod arguments;
 mod checking;
 mod command;
 mod compiling;
+mod counted;
 mod explain;
 mod failure;
+mod outcome;
 mod record_file;
+mod run_arguments;
+mod running;
 mod source;
 mod usage;
 

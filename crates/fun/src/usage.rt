@@ -3,7 +3,19 @@
 /// What `fun` and `fun help` print.
 // Kept: a constant text cannot be made from numbers.
 pub const USAGE: &str = "\
-fun: compiles and checks FUN rules for heat-pump controllers
+fun: compiles, checks and runs FUN rules for heat-pump controllers
+
+  fun run FILE NAME=VALUE.. run the rule in FILE on these readings; print its answer, how many
+                            steps that took, whether it is over, and how much room it used
+      FILE                  the rule's text; - reads standard input
+      NAME=VALUE..          the readings, in their order: each its name and a number; at most 8
+      --steps N             grant N steps, 1 to 1000000000; without it, 1000000
+      --slots N,N,..        grant so many steps one time after another instead, and print a line
+                            for each
+      --store STORE         run over the linked store, the flat one, or both, one after the other,
+                            and say whether these tell the same: linked, flat or both; without
+                            it, linked
+      --room N              lend the store so many cells or slots, at most 65535; without it, 256
 
   fun compile FILE NAME..   print the record of the rule in FILE: its bytes in hexadecimal,
                             then how many bytes and nodes it has
@@ -20,7 +32,8 @@ fun: compiles and checks FUN rules for heat-pump controllers
   fun explain NUMBER        say what a refusal means, with an example
   fun help                  print this
 
-A refused text or record and a wrong call end with status 1, and say why on standard error.
+A refused text or record and a wrong call end with status 1, and say why on standard error. A rule
+that was run ends with status 0, whether it has an answer, waits for more steps or is short of room.
 
   $ cat defrost.fun
   if 80 <= coil then 1 else 0
@@ -30,6 +43,10 @@ A refused text or record and a wrong call end with status 1, and say why on stan
   $ fun check defrost.fun coil
   defrost.fun: int
   24 bytes, 6 nodes, 1 reading
+  $ fun run defrost.fun coil=80
+  1
+  2 steps, over
+  0 of 256 cells used
 ";
 
 /// What is said behind a wrong call.

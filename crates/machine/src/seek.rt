@@ -314,7 +314,7 @@ pub fn enter<W: Store<Elem = Value>>(
 }
 
 /// Seeks a value downwards, from a node on.
-#[inline]
+#[inline(always)]
 pub fn seek<W: Store<Elem = Value>>(
     nodes: &[Node],
     store: &W,

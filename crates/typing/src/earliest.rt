@@ -10,7 +10,8 @@ use crate::clash::{Clash, Unmet};
 use crate::unifier::Unifier;
 
 impl Unifier<'_> {
-    /// Says in the tables what all nodes ask, or names the first node such that the conditions up to it cannot all be met.
+    /// Says in the tables what all nodes ask, or names the first node such that the conditions up to it cannot all be
+    /// met.
     pub(crate) fn solve(&mut self) -> Result<(), Unmet>
         requires tree { (t : Tree) × IsTree self.old.tree.now t }
         ensures { (t : Tree) → IsTree self.old.tree.now t → RuleTried self.old self.new t result }

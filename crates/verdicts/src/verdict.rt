@@ -10,10 +10,10 @@ use typing::fault::AcceptFault;
 use typing::rule::Rule;
 
 /// How many entries a work table needs at most: 3 for each node, and 2.
-pub(crate) const TABLE: usize = 3 * MOST_NODES + 2;
+pub const TABLE: usize = 3 * MOST_NODES + 2;
 
 /// How many entries of a type are written down. A type can have far more than any memory.
-pub(crate) const MOST_ENTRIES: usize = 65_536;
+pub const MOST_ENTRIES: usize = 65_536;
 
 /// What is told of an accepted rule.
 #[derive(Drop)]

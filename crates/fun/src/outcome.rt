@@ -1,0 +1,185 @@
+//! What a run did, in words.
+use crate::counted::Counted;
+use law::{Call, Played, Reply, Turn};
+use run::{Found, Report, RunFault, State};
+use std::fmt;
+use store::contract::Store;
+
+/// What a run did, and the room that it took.
+#[derive(Drop)]
+pub(crate) struct Outcome<'a> {
+    turns: Vec<Turn<'a>>,
+    report: Report,
+    used: u32,
+    whole: u32,
+    /// What the room is counted in.
+    unit: &'static str,
+}
+
+impl<'a> Outcome<'a> {
+    /// What is left of a run, over a store whose whole room is known.
+    pub(crate) fn of<S: Store + Drop>(
+        played: Played<S>,
+        turns: Vec<Turn<'a>>,
+        whole: u32,
+        unit: &'static str,
+    ) -> Outcome<'a> {
+        let Played {
+            rule: _,
+            store,
+            report,
+        } = played;
+        Outcome {
+            turns,
+            report,
+            used: whole.saturating_sub(store.free()),
+            whole,
+            unit,
+        }
+    }
+
+    /// Whether another run was told the same at each call.
+    pub(crate) fn tells_the_same(&self, other: &Outcome) -> bool {
+        self.report == other.report
+            && self
+                .turns
+                .iter()
+                .zip(other.turns.iter())
+                .all(|(one, two)| one.reply == two.reply)
+    }
+
+    /// A line for each slot.
+    pub(crate) fn slots(&self) -> Slots<'_, 'a> {
+        Slots(self.turns.as_slice())
+    }
+}
+
+impl fmt::Display for Outcome<'_> {
+    fn fmt<W: fmt::Write>(&self, f: &mut fmt::Formatter<W>) -> fmt::Result {
+        let Report { count, state } = self.report;
+        writeln!(f, "{}", Answer(state))?;
+        writeln!(
+            f,
+            "{}, {}",
+            Counted(count as usize, "step"),
+            Standing(state)
+        )?;
+        writeln!(
+            f,
+            "{} of {} used",
+            self.used,
+            Counted(self.whole as usize, self.unit)
+        )
+    }
+}
+
+/// The answer of a run, or why there is none.
+#[derive(Clone, Copy)]
+struct Answer(State);
+
+impl fmt::Display for Answer {
+    fn fmt<W: fmt::Write>(&self, f: &mut fmt::Formatter<W>) -> fmt::Result {
+        match self.0 {
+            State::Waiting => write!(f, "no answer yet"),
+            State::Done(Found::Number(number)) => write!(f, "{number}"),
+            State::Done(Found::Truth(truth)) => write!(f, "{truth}"),
+            State::Done(Found::Function { node }) => write!(f, "the function at node {node}"),
+            State::Range { node, .. } => {
+                write!(f, "no answer: the sum at node {node} is out of range")
+            }
+            State::NoStore { node } => {
+                write!(
+                    f,
+                    "no answer: what node {node} has to remember does not fit the store"
+                )
+            }
+            State::NoStack { node } => {
+                write!(
+                    f,
+                    "no answer: node {node} would be the 257th operation to be open"
+                )
+            }
+        }
+    }
+}
+
+/// Whether a run is over, or what it waits for.
+#[derive(Clone, Copy)]
+struct Standing(State);
+
+impl fmt::Display for Standing {
+    fn fmt<W: fmt::Write>(&self, f: &mut fmt::Formatter<W>) -> fmt::Result {
+        match self.0 {
+            State::Waiting => write!(f, "waits for more steps"),
+            State::Done(_) | State::Range { .. } => write!(f, "over"),
+            State::NoStore { .. } => write!(f, "short of room"),
+            State::NoStack { .. } => write!(f, "short of stack"),
+        }
+    }
+}
+
+/// The calls of a run, for a line on each slot.
+#[derive(Clone, Copy)]
+pub(crate) struct Slots<'s, 'a>(&'s [Turn<'a>]);
+
+impl fmt::Display for Slots<'_, '_> {
+    /// A slot is a grant and the ask behind it.
+    fn fmt<W: fmt::Write>(&self, f: &mut fmt::Formatter<W>) -> fmt::Result {
+        let mut order = 0usize;
+        for (grant, ask) in self.0.iter().zip(self.0.iter().skip(1)) {
+            let (Call::Grant(steps), Reply::Told(report)) = (grant.call, ask.reply) else {
+                continue;
+            };
+            order = order.saturating_add(1);
+            let reply = grant.reply;
+            writeln!(
+                f,
+                "slot {order}: {}",
+                Slot {
+                    steps,
+                    reply,
+                    report
+                }
+            )?;
+        }
+        Ok(())
+    }
+}
+
+/// A grant, its reply, and what is told behind it.
+#[derive(Clone, Copy)]
+struct Slot {
+    steps: u32,
+    reply: Reply,
+    report: Report,
+}
+
+impl fmt::Display for Slot {
+    fn fmt<W: fmt::Write>(&self, f: &mut fmt::Formatter<W>) -> fmt::Result {
+        let Report { count, state } = self.report;
+        let steps = Counted(self.steps as usize, "step");
+        match self.reply {
+            Reply::Done | Reply::Told(_) => {
+                write!(
+                    f,
+                    "{steps} granted, {count} done so far, {}",
+                    Standing(state)
+                )
+            }
+            Reply::Refused(RunFault::WrongSteps { most }) => {
+                write!(
+                    f,
+                    "{steps} refused, since at most {most} may still be granted"
+                )
+            }
+            Reply::Refused(fault) => {
+                write!(
+                    f,
+                    "{steps} refused ({}), {}",
+                    fault.number(),
+                    Standing(state)
+                )
+            }
+        }
+    }
+}
