@@ -1,6 +1,6 @@
 -- A granted step of a run that is on its way. Assumes nothing.
 use Rattle.std.proofs.Common.{◌≡◌, ◌≢◌, ℕ, suc, ◌<◌, ◌≤◌, List, refl, sym, ap, ◌∙◌, subst, arith}
-use Rattle.std.proofs.Math.Option.{none, some}
+use Rattle.std.proofs.Math.Option.{none}
 use Rattle.syntax.specs.declared.node.Node.{Node}
 use Rattle.store.specs.Lists.{Lists, Same}
 use Rattle.values.specs.declared.Value.{Value}
@@ -16,7 +16,6 @@ use Rattle.machine.specs.declared.operations.Operations.{Operations}
 use Rattle.machine.specs.declared.seek.Sought.{Sought}
 use Rattle.machine.specs.declared.seek.Sought.TheVariants as sought
 use Rattle.machine.specs.declared.settle.Next.{Next}
-use Rattle.machine.specs.declared.settle.Next.TheVariants as next
 use Rattle.machine.specs.declared.steps.Machine.{Machine}
 use Rattle.machine.specs.declared.steps.State.TheVariants as told
 use Rattle.machine.specs.declared.steps.State as told_state
@@ -53,21 +52,6 @@ module _ (ns : List Node) (lists : Lists Value) (r : Room) (left : ℕ) (root : 
       let waits_not : run.state ≡ told.Waiting → ⊥ = λ w. not (sym e ∙ w) in
       let rest : Rests ns lists run s.work = record { in_state = ap state_of e ∙ tells; ready = λ w. absurd (waits_not w) } in
       (not, stopped ns lists r left root run s 0 1 (omega arith) waits_not (rests_stands s run f o n c rest))
-
-  -- a run that waits, with the value that the innermost operation is reduced with
-  pub waits_on : (run : Machine) (s : Reckoned) → run.state ≡ told.Waiting → StandsAt ns lists r left root run s →
-      OnTheWay ns lists r left root run.table (next.Value run.focus) s
-  waits_on run s e h =
-      record {
-        left_free = h.left_free;
-        lists_made = h.lists_made;
-        not_refused = unrefused s.refused (one_too_many s.work) (ahead s.work (move s.work)) (sym h.in_state ∙ ap state_of e);
-        follows = (h.ready e).found;
-      }
-    where
-      unrefused : (o p : _) (st : _) → shortage o p st ≡ waiting → o ≡ none
-      unrefused none p st e = refl
-      unrefused (some n) p st e = let z : ◌≡◌ {A = ℕ} 0 1 = cc in absurd (omega arith)
 
 module _ (ns : List Node) (lists : Lists Value) (table : Operations) (x : Value) (s : Reckoned) (low : table.depth ≤ 256) (ready : Readied ns lists table x s.work) (unrefused : s.refused ≡ none) where
   waits : ahead s.work (move s.work) ≡ waiting → state s ≡ waiting
