@@ -6,7 +6,6 @@ ghost use Rattle.record.specs.Nodes.{node_at};
 ghost use Rattle.calculus.specs.Term.{Term};
 ghost use Rattle.reckoning.specs.Environments.{Env};
 ghost use Rattle.syntax.specs.declared.node.Node.TheVariants.{Application, LetIn, Sum, AtMost, IfElse};
-ghost use Rattle.machine.specs.declared.operations.Operations.{Operations as Table};
 ghost use Rattle.machine.specs.Places.{At};
 ghost use Rattle.machine.specs.Handles.{IsListOf};
 ghost use Rattle.machine.specs.Leaves.{AtOnce, GoesOn};
@@ -80,24 +79,6 @@ fn leaf<W: Store<Elem = Value>>(
     }
 }
 
-/// Goes on to an operand whose operation was just opened: a leaf has its value.
-#[inline(always)]
-fn operand<W: Store<Elem = Value>>(
-    nodes: &[Node],
-    store: &W,
-    place: u16,
-    environment: u32,
-) -> Entered
-    requires { GoesOn nodes.now (W.Store.lists store.now) place environment }
-    ensures deeper { (parent : ℕ) → parent < place → Deeper parent result }
-    ensures enters { (table : Table) (w : Work) (k : ℕ) → Meets nodes.now (W.Store.lists store.now) table place environment w k → Enters nodes.now (W.Store.lists store.now) table environment result w k }
-{
-    match leaf(nodes, store, place, environment) {
-        Some(value) => Entered::Value(value),
-        None => Entered::Child(place),
-    }
-}
-
 /// Enters an application: the argument first.
 #[inline(always)]
 fn enter_application<W: Store<Elem = Value>>(
@@ -123,7 +104,7 @@ fn enter_application<W: Store<Elem = Value>>(
                 node: place,
                 argument: value,
             });
-            operand(nodes, store, function, environment)
+            Entered::Child(function)
         }
         None => {
             table.push(Operation::Argument {
@@ -161,7 +142,7 @@ fn enter_sum<W: Store<Elem = Value>>(
                 node: place,
                 right: value,
             });
-            operand(nodes, store, left, environment)
+            Entered::Child(left)
         }
         None => {
             table.push(Operation::SumRight {
@@ -199,7 +180,7 @@ fn enter_comparison<W: Store<Elem = Value>>(
                 node: place,
                 right: value,
             });
-            operand(nodes, store, left, environment)
+            Entered::Child(left)
         }
         None => {
             table.push(Operation::CompareRight {
@@ -236,7 +217,7 @@ fn enter_let<W: Store<Elem = Value>>(
         body,
         environment,
     });
-    operand(nodes, store, bound, environment)
+    Entered::Child(bound)
 }
 
 /// Enters an if: the condition first.
@@ -265,10 +246,10 @@ fn enter_if<W: Store<Elem = Value>>(
         otherwise,
         environment,
     });
-    operand(nodes, store, condition, environment)
+    Entered::Child(condition)
 }
 
-/// Enters a node: it has a value, or its operation is opened, and operands that are leaves are worked out at once.
+/// Enters a node: it has a value, or its operation is opened. A right operand that is a leaf is worked out at once.
 #[inline(always)]
 pub fn enter<W: Store<Elem = Value>>(
     nodes: &[Node],

@@ -1,6 +1,6 @@
 use Rattle.machine.proofs.Placing.{shape}
 use Rattle.machine.proofs.Entering.{over_sum, opens_sum}
-use Rattle.machine.proofs.Fusing.{met_goes_on, sum_goes_on, sum_next}
+use Rattle.machine.proofs.Fusing.{sum_goes_on, sum_next}
 use Rattle.machine.proofs.seek.enter_sum.Goals as goal
 
 pub returns-then-table-eq-MOST_OPEN-clause-enters : goal.returns-then-table-eq-MOST_OPEN-clause-enters
@@ -12,23 +12,15 @@ leaf-requires g c =
     let q = c.requires.meets in
     sum_goes_on c.args.nodes.now (g.W.Store.lists c.args.store.now) c.args.table.now c.args.place c.args.environment q.0 q.1 q.2 c.args.left c.args.right c.requires.node q.3
 
-pub operand-requires : goal.operand-requires
-operand-requires g c =
-    let q = c.requires.meets in
-    met_goes_on c.args.nodes.now (g.W.Store.lists c.args.store.now) c.push.new.self c.args.left c.args.environment q.0 q.1
-    (sum_next c.args.nodes.now (g.W.Store.lists c.args.store.now) c.args.table.now c.push.new.self c.args.place c.args.environment q.0 q.1 c.args.left c.args.right c.in-Some.value c.requires.node c.in-Some.ensures
-    c.push.ensures.ops c.push.ensures.depth q.2) q.3
-
 pub returns-in-Some-clause-deeper : goal.returns-in-Some-clause-deeper
 returns-in-Some-clause-deeper g c =
     let m = c.requires.meets.2 in
-    c.operand.ensures.deeper c.args.place (shape c.args.nodes.now c.args.place m.term _ m.at c.requires.node).3.left_deeper
+    (shape c.args.nodes.now c.args.place m.term _ m.at c.requires.node).3.left_deeper
 
 pub returns-in-Some-clause-enters : goal.returns-in-Some-clause-enters
 returns-in-Some-clause-enters g c w k m =
-    c.operand.ensures.enters c.push.new.self w k
-    (sum_next c.args.nodes.now (g.W.Store.lists c.args.store.now) c.args.table.now c.push.new.self c.args.place c.args.environment w k c.args.left c.args.right c.in-Some.value c.requires.node c.in-Some.ensures
-    c.push.ensures.ops c.push.ensures.depth m)
+    sum_next c.args.nodes.now (g.W.Store.lists c.args.store.now) c.args.table.now c.push.new.self c.args.place c.args.environment w k c.args.left c.args.right c.in-Some.value c.requires.node c.in-Some.ensures
+    c.push.ensures.ops c.push.ensures.depth m
 
 pub returns-in-None-clause-deeper : goal.returns-in-None-clause-deeper
 returns-in-None-clause-deeper g c =
