@@ -1,5 +1,5 @@
 -- A node is entered. Assumes nothing.
-use Rattle.std.proofs.Common.{◌≡◌, ℕ, zero, suc, ◌+◌, ◌<◌, ◌≤◌, List, [], ◌∷◌, ◌⊎◌, inl, inr, length, Ok, Err, Result, get_or, refl, sym, ap, ◌∙◌, subst, arith}
+use Rattle.std.proofs.Common.{◌≡◌, ℕ, zero, suc, ◌+◌, ◌<◌, ◌≤◌, List, [], ◌∷◌, ◌⊎◌, inl, inr, length, Ok, Result, get_or, refl, sym, ap, ◌∙◌, subst, arith}
 use Rattle.std.proofs.lemmas.Bool.{cases_lt}
 use Rattle.std.proofs.Math.Option.{none, some}
 use Rattle.syntax.specs.Tree.{nodes}
@@ -89,19 +89,6 @@ module _ (ns : List Node) (lists : Lists Value) where
   -- a variable with no value: nothing fits
   pub stuck_inside : (os : List Open) (d : ℕ) → move (plugged os (unbound d)) ≡ stuck
   stuck_inside os d = moves_inside.same_move os (unbound d) (λ e. let z : ◌≡◌ {A = ℕ} 0 1 = cc in omega arith)
-
-  not_found : (table : Operations) (p h : ℕ) (w : Work) (k d : ℕ) (f : StoreFault) (m : Meets ns lists table p h w k) (l : List Value) → m.term ≡ Term.variable d →
-      AllStandFor ns lists l m.env → Found l d (Err f) → (d < length l) ⊎ (length l ≤ d) → move w ≡ stuck
-  not_found table p h w k d f m l is all told (inl less) = let y = told.found less in absurd (ok_err {X = Value} {Y = StoreFault} y.1 refl)
-  not_found table p h w k d f m l is all told (inr more) =
-      let e : met m.term m.env ≡ unbound d = ap (λ t. met t m.env) is ∙ ap (λ o. found o d) (unlisted l m.env d all more) in
-      ap (λ y. move y) (sym m.whole ∙ ap (λ y. plugged m.opens y) e) ∙ stuck_inside m.opens d
-
-  pub no_variable : (table : Operations) (p h : ℕ) (w : Work) (k d : ℕ) (f : StoreFault) → node.Variable d ≡ node_at ns p → Looked lists h d (Err f) →
-      Meets ns lists table p h w k → move w ≡ stuck
-  no_variable table p h w k d f e looked m =
-      let there = m.environment in
-      not_found table p h w k d f m there.0 (shape ns p m.term (node.Variable d) m.at e) there.2 (looked.listed there.0 there.1) (cases_lt d (length there.0))
 
   -- an operation is opened, and its first operand is met
   pub goes_down : (table table' : Operations) (p h q : ℕ) (w : Work) (k : ℕ) (op : Operation) (o : Open) (t : Term) (m : Meets ns lists table p h w k) (a : At ns q t) →

@@ -1,6 +1,6 @@
 -- One granted step, on plain lists and in the store. Assumes nothing.
 use Rattle.std.proofs.Common.{◌≡◌, ◌≢◌, ℕ, suc, ◌+◌, ◌<◌, ◌≤◌, inl, inr, Bool, true, false, List, [], ◌∷◌, Some, refl, sym, ap, ◌∙◌, subst, arith}
-use Rattle.std.proofs.Math.Option.{Option, none, some}
+use Rattle.std.proofs.Math.Option.{none, some}
 use Rattle.syntax.specs.declared.node.Node.{Node}
 use Rattle.store.specs.Lists.{Lists, Same}
 use Rattle.store.proofs.Told.{some_none}
@@ -8,16 +8,14 @@ use Rattle.values.specs.declared.Value.{Value}
 use Rattle.reckoning.specs.Environments.{Env}
 use Rattle.reckoning.specs.Work.{Work}
 use Rattle.reckoning.specs.Moves.{Move, rests, beyond, stuck, plain, makes, move}
-use Rattle.reckoning.specs.Open.{one_too_many}
 use Rattle.reckoning.specs.Room.{Room, price, free}
-use Rattle.reckoning.specs.Reckoning.{Reckoned, State, waiting, over, shortage, ahead, state, extends, reduces, if_waiting, granted, steps}
+use Rattle.reckoning.specs.Reckoning.{Reckoned, waiting, state, extends, reduces, if_waiting, granted, steps}
 use Rattle.machine.specs.declared.steps.Machine.{Machine}
 use Rattle.machine.specs.declared.steps.State.TheVariants as told
 use Rattle.machine.specs.declared.steps.State as told_state
 use Rattle.machine.specs.Handles.{Among, OwnLists, Root, Owned}
 use Rattle.machine.specs.Reducing.{room_of, MakesList, Moved}
-use Rattle.machine.specs.Standing.{Readied}
-use Rattle.machine.specs.Running.{state_of, Rests, StandsAt, NeverStuck}
+use Rattle.machine.specs.Running.{state_of, StandsAt, NeverStuck}
 use Rattle.reckoning.proofs.Steps.{steps_add_up, stays}
 use Rattle.machine.proofs.Ranges.{leb_yes, leb_no}
 use Rattle.machine.proofs.Keeping.{Kept, same_kept, others_kept, list_kept}
@@ -62,19 +60,8 @@ module _ (ns : List Node) (lists lists' : Lists Value) where
 
 -- one granted step
 
-shortage_waiting : (o p : Option ℕ) (st : State) → shortage o p st ≡ waiting → st ≡ waiting
-shortage_waiting (some n) p st e = let z : ◌≡◌ {A = ℕ} 0 1 = cc in absurd (omega arith)
-shortage_waiting none (some n) st e = let z : ◌≡◌ {A = ℕ} 0 1 = cc in absurd (omega arith)
-shortage_waiting none none st e = e
-
 pub granted_reduces : (r : Room) (s : Reckoned) → state s ≡ waiting → granted r s ≡ reduces r s (move s.work)
 granted_reduces r s e = ap (λ st. if_waiting st (reduces r s (move s.work)) s) e
-
-pub not_beyond : (s : Reckoned) (n : ℕ) → state s ≡ waiting → move s.work ≡ beyond n → ⊥
-not_beyond s n e f =
-    let q : over _ ≡ waiting = ap (λ m. ahead s.work m) (sym f) ∙ shortage_waiting s.refused (one_too_many s.work) (ahead s.work (move s.work)) e in
-    let z : ◌≡◌ {A = ℕ} 0 1 = cc in
-    omega arith
 
 module _ (ns : List Node) (lists lists' : Lists Value) (r : Room) (left left' : ℕ) (root : Root) where
   -- s' is where a reduction of s to the work u leads
@@ -108,17 +95,6 @@ module _ (ns : List Node) (lists lists' : Lists Value) (r : Room) (left left' : 
       let paid = m.1.paid in
       extends_goes s n env w u _ (leb_yes (price r env) (free r s.made) (omega arith)) m.0 f o m.1
 
-  -- the run that rests at the new work stands where s' is
-  pub goes_stands : (s s' : Reckoned) (u : Work) (run : Machine) → Goes s s' u → run.count ≡ suc s.count → Rests ns lists' run u → StandsAt ns lists' r left' root run s'
-  goes_stands s s' u run g c h =
-      record {
-        in_state = h.in_state ∙ ap (λ y. shortage none (one_too_many y) (ahead y (move y))) (sym g.work) ∙ ap (λ y. shortage y (one_too_many s'.work) (ahead s'.work (move s'.work))) (sym g.refused);
-        counted = c ∙ sym g.count;
-        left_free = g.left_free;
-        lists_made = g.lists_made;
-        ready = λ e. subst (λ y. Readied ns lists' run.table run.focus y) (sym g.work) (h.ready e);
-      }
-
   -- an extension is refused
   pub refused_stands : (s : Reckoned) (n : ℕ) (env : Env) (u : Work) (run : Machine) → state s ≡ waiting → left ≡ free r s.made → Owned ns lists root s.made →
       move s.work ≡ makes n env u → left < price r env → Same lists lists' → left' ≡ left → run.count ≡ s.count → run.state ≡ told.NoStore n →
@@ -144,9 +120,6 @@ module _ (ns : List Node) (lists lists' : Lists Value) (r : Room) (left left' : 
   pub granted_goes : (s : Reckoned) (u : Work) → state s ≡ waiting → left ≡ free r s.made → Owned ns lists root s.made → Moved ns r lists lists' left left' (move s.work) u →
       Goes ns lists lists' r left left' root s (granted r s) u
   granted_goes s u e f o m = subst (λ y. Goes ns lists lists' r left left' root s y u) (sym (granted_reduces r s e)) (reduces_goes ns lists lists' r left left' root s (move s.work) u f o m)
-
-  pub never_stuck_next : (s : Reckoned) (u : Work) → Goes ns lists lists' r left left' root s (granted r s) u → NeverStuck r s → move u ≡ stuck → ⊥
-  never_stuck_next s u g h e = h 1 (ap (λ y. move y) g.work ∙ e)
 
 pub room_same : (whole whole' : ℕ) (cost cost' : ℕ → ℕ) → whole ≡ whole' → cost ≡ cost' → room_of whole cost ≡ room_of whole' cost'
 room_same whole whole' cost cost' e f = ap (λ x. room_of x cost) e ∙ ap (λ y. room_of whole' y) f

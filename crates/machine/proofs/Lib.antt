@@ -9,3 +9,5 @@ pub mod Extending
 pub mod Telling
 pub mod Granting
 pub mod Beginning
+mod Fusing
+mod Going

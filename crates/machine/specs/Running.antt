@@ -1,5 +1,5 @@
 -- Where a run stands. Assumes nothing.
-use Rattle.std.specs.Prelude.{◌≡◌, ◌≢◌, ℕ, ◌≤◌, ℤ, List, length, None, Result, Ok, Err}
+use Rattle.std.specs.Prelude.{◌≡◌, ◌≢◌, ℕ, suc, ◌≤◌, ℤ, List, length, None, Result, Ok, Err}
 use Rattle.std.proofs.Math.Option.{none}
 use Rattle.syntax.specs.declared.node.Node.{Node}
 use Rattle.syntax.specs.Tree.{Tree, nodes}
@@ -22,7 +22,11 @@ use Rattle.machine.specs.declared.steps.Machine.{Machine}
 use Rattle.machine.specs.declared.steps.State.{State}
 use Rattle.machine.specs.declared.steps.State.TheVariants.{Waiting, Done, Range, NoStore, NoStack}
 use Rattle.machine.specs.Handles.{IsListOf, Root, Owned}
-use Rattle.machine.specs.Standing.{Readied}
+use Rattle.machine.specs.declared.operations.Operations.{Operations}
+use Rattle.machine.specs.declared.settle.Next.{Next}
+use Rattle.machine.specs.declared.steps.Gone.{Gone}
+use Rattle.machine.specs.declared.steps.Gone.TheVariants.{On, Ended}
+use Rattle.machine.specs.Standing.{Readied, Follows}
 
 abbrev pub answer_of : Value → Answer
 answer_of (value.Number k) = Answer.number k
@@ -77,3 +81,17 @@ pub record Begins (ns : List Node) (lists : Lists Value) (whole left : ℕ) (h :
 -- these readings, the list of this handle
 abbrev pub rooted : ℕ → List ℤ → Root
 rooted h readings = record { handle = h; environment = base readings }
+
+-- The run goes on with what is next, where s is, and was not refused room.
+pub record OnTheWay (ns : List Node) (lists : Lists Value) (room : Room) (left : ℕ) (root : Root) (table : Operations) (next : Next) (s : Reckoned) : Type 0 where
+  pub left_free : left ≡ free room s.made
+  pub lists_made : Owned ns lists root s.made
+  pub not_refused : s.refused ≡ none
+  pub follows : Follows ns lists table next s.work
+
+-- After a granted step: one reduction more, or each run that is in this state stands there, with as many reductions.
+abbrev pub Leads : List Node → Lists Value → Room → ℕ → Root → Operations → Gone → Reckoned → Type 0
+Leads ns lists room left root table (On next) s =
+    ((granted room s).count ≡ suc s.count) × OnTheWay ns lists room left root table next (granted room s)
+Leads ns lists room left root table (Ended st) s =
+    (run : Machine) → run.state ≡ st → run.count ≡ s.count → (st ≢ Waiting) × StandsAt ns lists room left root run (granted room s)

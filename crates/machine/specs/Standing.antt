@@ -16,6 +16,8 @@ use Rattle.machine.specs.declared.seek.Entered.{Entered}
 use Rattle.machine.specs.declared.seek.Entered.TheVariants as entered
 use Rattle.machine.specs.declared.seek.Sought.{Sought}
 use Rattle.machine.specs.declared.seek.Sought.TheVariants as sought
+use Rattle.machine.specs.declared.settle.Next.{Next}
+use Rattle.machine.specs.declared.settle.Next.TheVariants as next
 use Rattle.machine.specs.declared.settle.Way.{Way}
 use Rattle.machine.specs.declared.settle.Way.TheVariants as way
 use Rattle.machine.specs.declared.settle.Settled.{Settled}
@@ -81,3 +83,13 @@ abbrev pub Settles : List Node → Lists Value → Operations → Settled → Wo
 Settles ns lists table (settled.Over x) w = (table.depth ≡ 0) × HasFound ns lists table x w
 Settles ns lists table (settled.Ready x) w = Readied ns lists table x w
 Settles ns lists table (settled.NoStack n) w = one_too_many w ≡ some n
+
+-- a run goes on with a value that was found, or with a node that is to be met
+abbrev pub Follows : List Node → Lists Value → Operations → Next → Work → Type 0
+Follows ns lists table (next.Value x) w = HasFound ns lists table x w
+Follows ns lists table (next.Node p h) w = (k : ℕ) × Meets ns lists table p h w k
+
+-- it comes to a value
+abbrev pub Reaches : List Node → Lists Value → Operations → Sought → Work → Type 0
+Reaches ns lists table (sought.Value x) w = HasFound ns lists table x w
+Reaches ns lists table (sought.NoStack n) w = one_too_many w ≡ some n

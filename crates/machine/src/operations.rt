@@ -30,7 +30,7 @@ impl Operations {
     }
 
     /// Opens an operation.
-    #[inline]
+    #[inline(always)]
     pub fn push(&mut self, op: Operation)
         requires { self.old.depth < 256 }
         ensures ops { Topped self.old.ops self.new.ops self.old.depth op }
@@ -41,7 +41,7 @@ impl Operations {
     }
 
     /// The innermost operation.
-    #[inline]
+    #[inline(always)]
     pub fn top(&self) -> Operation
         requires { 0 < self.now.depth }
         ensures { result ≡ op_at self.now.ops (self.now.depth - 1) }
@@ -50,7 +50,7 @@ impl Operations {
     }
 
     /// Puts another operation in the place of the innermost.
-    #[inline]
+    #[inline(always)]
     pub fn put(&mut self, op: Operation)
         requires { 0 < self.old.depth }
         ensures ops { Topped self.old.ops self.new.ops (self.old.depth - 1) op }
@@ -60,7 +60,7 @@ impl Operations {
     }
 
     /// Closes the innermost operation.
-    #[inline]
+    #[inline(always)]
     pub fn pop(&mut self)
         requires { 0 < self.old.depth }
         ensures ops { self.new.ops ≡ self.old.ops }

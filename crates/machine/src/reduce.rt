@@ -29,7 +29,7 @@ pub enum Reduced {
 }
 
 /// Puts a value before an environment, and enters a body in it.
-#[inline]
+#[inline(always)]
 fn enter_body<W: Store<Elem = Value>>(
     store: &mut W,
     table: &mut Operations,
@@ -58,7 +58,7 @@ fn enter_body<W: Store<Elem = Value>>(
 }
 
 /// A function is applied to its argument.
-#[inline]
+#[inline(always)]
 fn apply<W: Store<Elem = Value>>(
     nodes: &[Node],
     store: &mut W,
@@ -87,7 +87,7 @@ fn apply<W: Store<Elem = Value>>(
 }
 
 /// A let binds its value.
-#[inline]
+#[inline(always)]
 fn bind<W: Store<Elem = Value>>(
     nodes: &[Node],
     store: &mut W,
@@ -107,7 +107,7 @@ fn bind<W: Store<Elem = Value>>(
 }
 
 /// Two numbers are added.
-#[inline]
+#[inline(always)]
 fn add<W: Store<Elem = Value>>(
     nodes: &[Node],
     store: &W,
@@ -135,7 +135,7 @@ fn add<W: Store<Elem = Value>>(
 }
 
 /// Two numbers are compared.
-#[inline]
+#[inline(always)]
 fn compare<W: Store<Elem = Value>>(
     nodes: &[Node],
     store: &W,
@@ -158,7 +158,7 @@ fn compare<W: Store<Elem = Value>>(
 }
 
 /// A branch is chosen.
-#[inline]
+#[inline(always)]
 fn choose<W: Store<Elem = Value>>(
     nodes: &[Node],
     store: &W,

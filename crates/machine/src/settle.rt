@@ -6,7 +6,7 @@ ghost use Rattle.store.specs.Lists.{Lists};
 ghost use Rattle.values.specs.declared.Value.{Value as RunValue};
 ghost use Rattle.reckoning.specs.Work.{Work};
 ghost use Rattle.reckoning.specs.Moves.{move, stuck};
-ghost use Rattle.machine.specs.Standing.{HasFound, GivesWay, Settles};
+ghost use Rattle.machine.specs.Standing.{HasFound, Follows, Reaches, GivesWay, Settles};
 
 use crate::operation::Operation;
 use crate::operations::Operations;
@@ -14,6 +14,15 @@ use crate::seek::{Sought, seek};
 use store::contract::Store;
 use syntax::node::Node;
 use values::Value;
+
+/// What a run goes on with.
+#[derive(Clone, Copy)]
+pub enum Next {
+    /// A value that was found.
+    Value(Value),
+    /// A node that is to be met.
+    Node { place: u16, environment: u32 },
+}
 
 /// What the innermost operation does with a value that was found.
 #[derive(Clone, Copy)]
@@ -112,5 +121,39 @@ pub fn settle<W: Store<Elem = Value>>(
                 Sought::NoStack(node) => return Settled::NoStack(node),
             },
         }
+    }
+}
+
+/// The value that a run goes on with, sought from the node that is to be met.
+#[inline(always)]
+fn value_of<W: Store<Elem = Value>>(
+    nodes: &[Node],
+    store: &W,
+    table: &mut Operations,
+    next: Next,
+) -> Sought
+    requires { (w : Work) × Follows nodes.now (W.Store.lists store.now) table.old next w × (move w ≢ stuck) }
+    ensures { (w : Work) → Follows nodes.now (W.Store.lists store.now) table.old next w → Reaches nodes.now (W.Store.lists store.now) table.new result w }
+{
+    match next {
+        Next::Value(value) => Sought::Value(value),
+        Next::Node { place, environment } => seek(nodes, store, table, place, environment),
+    }
+}
+
+/// Goes on to an operation that is ready to be reduced.
+#[inline(always)]
+pub fn ready<W: Store<Elem = Value>>(
+    nodes: &[Node],
+    store: &W,
+    table: &mut Operations,
+    next: Next,
+) -> Settled
+    requires { (w : Work) × Follows nodes.now (W.Store.lists store.now) table.old next w × (move w ≢ stuck) }
+    ensures { (w : Work) → Follows nodes.now (W.Store.lists store.now) table.old next w → Settles nodes.now (W.Store.lists store.now) table.new result w }
+{
+    match value_of(nodes, store, table, next) {
+        Sought::Value(value) => settle(nodes, store, table, value),
+        Sought::NoStack(node) => Settled::NoStack(node),
     }
 }

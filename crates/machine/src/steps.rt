@@ -10,15 +10,14 @@ ghost use Rattle.reckoning.specs.Moves.{move, stuck};
 ghost use Rattle.reckoning.specs.Reckoning.{Reckoned, begun, granted, steps, ahead as next_state};
 ghost use Rattle.machine.specs.declared.steps.State.TheVariants.{Waiting};
 ghost use Rattle.machine.specs.Handles.{Root};
-ghost use Rattle.machine.specs.Standing.{Meets, HasFound, Readied};
+ghost use Rattle.machine.specs.Standing.{Readied, Follows};
 ghost use Rattle.machine.specs.Reducing.{room_of};
-ghost use Rattle.machine.specs.Running.{state_of, sum_ahead as sum_is_ahead, Rests, StandsAt, NeverStuck, Begins, rooted};
+ghost use Rattle.machine.specs.Running.{state_of, sum_ahead as sum_is_ahead, Rests, StandsAt, NeverStuck, Begins, rooted, OnTheWay, Leads};
 
 use crate::operation::Operation;
 use crate::operations::Operations;
 use crate::reduce::{Reduced, reduce};
-use crate::seek::{Sought, seek};
-use crate::settle::{Settled, settle};
+use crate::settle::{Next, Settled, ready};
 use arithmetic::OutOfRange;
 use store::contract::Store;
 use syntax::node::Node;
@@ -34,6 +33,15 @@ pub enum State {
     NoStack(u16),
 }
 
+/// What comes of a granted step.
+#[derive(Clone, Copy)]
+pub enum Gone {
+    /// A reduction, and the run goes on with what is next.
+    On(Next),
+    /// None: the run is in this state.
+    Ended(State),
+}
+
 /// Where a run is.
 #[derive(Drop)]
 pub struct Machine {
@@ -46,7 +54,6 @@ pub struct Machine {
 }
 
 /// What is told of a sum that is next.
-#[inline]
 fn sum_ahead(node: u16, right: Value, left: Value) -> State
     ensures { result ≡ sum_is_ahead node right left }
 {
@@ -63,7 +70,6 @@ fn sum_ahead(node: u16, right: Value, left: Value) -> State
 }
 
 /// What is told of the reduction that is next.
-#[inline]
 fn ahead(table: &Operations, value: Value) -> State
     requires { 0 < table.now.depth }
     ensures { (ns : List Nodes) (lists : Lists Value_) (w : Work) → Readied ns lists table.now value w → state_of result ≡ next_state w (move w) }
@@ -71,6 +77,32 @@ fn ahead(table: &Operations, value: Value) -> State
     match table.top() {
         Operation::SumLeft { node, right } => sum_ahead(node, right, value),
         _ => State::Waiting,
+    }
+}
+
+/// One granted step: on to an operation that is ready, and its reduction.
+#[inline(always)]
+fn step<W: Store<Elem = Value>>(
+    nodes: &[Node],
+    store: &mut W,
+    table: &mut Operations,
+    next: Next,
+) -> Gone
+    requires goes_on { (root : Root) × (s : Reckoned) × OnTheWay nodes.now (W.Store.lists store.old) (room_of (W.Store.whole store.old) (W.Store.cost store.old)) (W.Store.room store.old) root table.old next s × NeverStuck (room_of (W.Store.whole store.old) (W.Store.cost store.old)) s }
+    ensures goes { (root : Root) (s : Reckoned) → OnTheWay nodes.now (W.Store.lists store.old) (room_of (W.Store.whole store.old) (W.Store.cost store.old)) (W.Store.room store.old) root table.old next s → Leads nodes.now (W.Store.lists store.new) (room_of (W.Store.whole store.old) (W.Store.cost store.old)) (W.Store.room store.new) root table.new result s }
+    ensures base { W.Store.base store.new ≡ W.Store.base store.old }
+    ensures whole { W.Store.whole store.new ≡ W.Store.whole store.old }
+    ensures cost { W.Store.cost store.new ≡ W.Store.cost store.old }
+{
+    match ready(nodes, store, table, next) {
+        Settled::Over(value) => Gone::Ended(State::Done(value)),
+        Settled::NoStack(node) => Gone::Ended(State::NoStack(node)),
+        Settled::Ready(value) => match reduce(nodes, store, table, value) {
+            Reduced::Found(value) => Gone::On(Next::Value(value)),
+            Reduced::Body { place, environment } => Gone::On(Next::Node { place, environment }),
+            Reduced::Range { node, beyond } => Gone::Ended(State::Range { node, beyond }),
+            Reduced::NoStore(node) => Gone::Ended(State::NoStore(node)),
+        },
     }
 }
 
@@ -85,39 +117,20 @@ impl Machine {
         }
     }
 
-    /// Comes back with a value that was found, to where the run waits or ends.
-    #[inline(always)]
-    fn come_back<W: Store<Elem = Value>>(&mut self, nodes: &[Node], store: &W, value: Value)
-        requires { (w : Work) × HasFound nodes.now (W.Store.lists store.now) self.old.table value w × (move w ≢ stuck) }
-        ensures rests { (w : Work) → HasFound nodes.now (W.Store.lists store.now) self.old.table value w → Rests nodes.now (W.Store.lists store.now) self.new w }
+    /// Goes on to where the run waits or ends, with no step left.
+    #[inline(never)]
+    fn rest<W: Store<Elem = Value>>(&mut self, nodes: &[Node], store: &W, next: Next)
+        requires { (w : Work) × Follows nodes.now (W.Store.lists store.now) self.old.table next w × (move w ≢ stuck) }
+        ensures rests { (w : Work) → Follows nodes.now (W.Store.lists store.now) self.old.table next w → Rests nodes.now (W.Store.lists store.now) self.new w }
         ensures count { self.new.count ≡ self.old.count }
     {
-        match settle(nodes, store, &mut self.table, value) {
+        match ready(nodes, store, &mut self.table, next) {
             Settled::Over(value) => self.state = State::Done(value),
             Settled::Ready(value) => {
                 self.focus = value;
                 self.state = ahead(&self.table, value);
             }
             Settled::NoStack(node) => self.state = State::NoStack(node),
-        }
-    }
-
-    /// Goes to a node that is to be met, and on to where the run waits or ends.
-    #[inline(always)]
-    fn go_to<W: Store<Elem = Value>>(
-        &mut self,
-        nodes: &[Node],
-        store: &W,
-        place: u16,
-        environment: u32,
-    )
-        requires { (w : Work) × (k : ℕ) × Meets nodes.now (W.Store.lists store.now) self.old.table place environment w k × (move w ≢ stuck) }
-        ensures rests { (w : Work) (k : ℕ) → Meets nodes.now (W.Store.lists store.now) self.old.table place environment w k → Rests nodes.now (W.Store.lists store.now) self.new w }
-        ensures count { self.new.count ≡ self.old.count }
-    {
-        match seek(nodes, store, &mut self.table, place, environment) {
-            Sought::Value(value) => self.come_back(nodes, store, value),
-            Sought::NoStack(node) => self.state = State::NoStack(node),
         }
     }
 
@@ -128,33 +141,14 @@ impl Machine {
     {
         self.table.clear();
         self.count = 0;
-        self.go_to(nodes, store, 0, environment);
-    }
-
-    /// One granted step of a run that waits.
-    #[inline(always)]
-    fn step<W: Store<Elem = Value>>(&mut self, nodes: &[Node], store: &mut W)
-        requires waits { self.old.state ≡ Waiting }
-        requires low { self.old.count < 4294967295 }
-        requires stands { (root : Root) × (s : Reckoned) × StandsAt nodes.now (W.Store.lists store.old) (room_of (W.Store.whole store.old) (W.Store.cost store.old)) (W.Store.room store.old) root self.old s × NeverStuck (room_of (W.Store.whole store.old) (W.Store.cost store.old)) s }
-        ensures goes { (root : Root) (s : Reckoned) → StandsAt nodes.now (W.Store.lists store.old) (room_of (W.Store.whole store.old) (W.Store.cost store.old)) (W.Store.room store.old) root self.old s → StandsAt nodes.now (W.Store.lists store.new) (room_of (W.Store.whole store.old) (W.Store.cost store.old)) (W.Store.room store.new) root self.new (granted (room_of (W.Store.whole store.old) (W.Store.cost store.old)) s) }
-        ensures low { self.new.count ≤ self.old.count + 1 }
-        ensures base { W.Store.base store.new ≡ W.Store.base store.old }
-        ensures whole { W.Store.whole store.new ≡ W.Store.whole store.old }
-        ensures cost { W.Store.cost store.new ≡ W.Store.cost store.old }
-    {
-        match reduce(nodes, store, &mut self.table, self.focus) {
-            Reduced::Found(value) => {
-                self.count += 1;
-                self.come_back(nodes, store, value);
-            }
-            Reduced::Body { place, environment } => {
-                self.count += 1;
-                self.go_to(nodes, store, place, environment);
-            }
-            Reduced::Range { .. } => unreachable!(),
-            Reduced::NoStore(node) => self.state = State::NoStore(node),
-        }
+        self.rest(
+            nodes,
+            store,
+            Next::Node {
+                place: 0,
+                environment,
+            },
+        );
     }
 
     /// So many granted steps: exactly as many reductions, or as many as there are before the run ends.
@@ -166,11 +160,21 @@ impl Machine {
         ensures whole { W.Store.whole store.new ≡ W.Store.whole store.old }
         ensures cost { W.Store.cost store.new ≡ W.Store.cost store.old }
     {
+        let State::Waiting = self.state else {
+            return;
+        };
+        let mut next = Next::Value(self.focus);
         for done in 0..granted {
-            match self.state {
-                State::Waiting => self.step(nodes, store),
-                _ => return,
+            match step(nodes, store, &mut self.table, next) {
+                Gone::On(to) => next = to,
+                Gone::Ended(state) => {
+                    self.count += done;
+                    self.state = state;
+                    return;
+                }
             }
         }
+        self.count += granted;
+        self.rest(nodes, store, next);
     }
 }

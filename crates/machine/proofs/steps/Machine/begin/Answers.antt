@@ -1,12 +1,12 @@
 use Rattle.machine.proofs.Beginning.{begins_met, begins_stands}
 use Rattle.machine.proofs.steps.Machine.begin.Goals as goal
 
-pub go_to-requires : goal.go_to-requires
-go_to-requires g c =
+pub rest-requires : goal.rest-requires
+rest-requires g c =
     let b = c.requires in
-    (_, _, begins_met c.args.nodes.now (g.W.Store.lists c.args.store.now) (g.W.Store.whole c.args.store.now) (g.W.Store.room c.args.store.now) c.args.environment b.0 b.1 b.2 c.clear.new.self c.clear.ensures, b.3)
+    (_, (_, begins_met c.args.nodes.now (g.W.Store.lists c.args.store.now) (g.W.Store.whole c.args.store.now) (g.W.Store.room c.args.store.now) c.args.environment b.0 b.1 b.2 c.clear.new.self c.clear.ensures), b.3)
 
 pub returns : goal.returns
 returns g c t readings b =
-    begins_stands c.args.nodes.now (g.W.Store.lists c.args.store.now) (g.W.Store.whole c.args.store.now) (g.W.Store.room c.args.store.now) c.args.environment t readings b (g.W.Store.cost c.args.store.now) c.go_to.new.self c.go_to.ensures.count
-    (c.go_to.ensures.rests _ _ (begins_met c.args.nodes.now (g.W.Store.lists c.args.store.now) (g.W.Store.whole c.args.store.now) (g.W.Store.room c.args.store.now) c.args.environment t readings b c.clear.new.self c.clear.ensures))
+    begins_stands c.args.nodes.now (g.W.Store.lists c.args.store.now) (g.W.Store.whole c.args.store.now) (g.W.Store.room c.args.store.now) c.args.environment t readings b (g.W.Store.cost c.args.store.now) c.rest.new.self c.rest.ensures.count
+    (c.rest.ensures.rests _ (_, begins_met c.args.nodes.now (g.W.Store.lists c.args.store.now) (g.W.Store.whole c.args.store.now) (g.W.Store.room c.args.store.now) c.args.environment t readings b c.clear.new.self c.clear.ensures))
