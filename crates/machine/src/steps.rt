@@ -175,6 +175,8 @@ impl Machine {
             }
         }
         self.count += granted;
-        self.rest(nodes, store, next);
+        // A copy, so that what is next stays out of memory within the loop.
+        let last = next;
+        self.rest(nodes, store, last);
     }
 }
