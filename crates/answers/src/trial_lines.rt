@@ -79,11 +79,13 @@ impl OnStore for Line {
         );
         let free = store.free();
         match result {
-            Ok(Success {
-                bytes: _,
-                entries,
-                report,
-            }) => {
+            Ok(
+                Success {
+                    bytes: _,
+                    entries,
+                    report,
+                },
+            ) => {
                 let entries = joined(heap, &self.types[..entries])?;
                 let report = Reported(report);
                 Ok(format!(in heap; "ok {report} type={entries} free={free}")?)

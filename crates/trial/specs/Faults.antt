@@ -2,7 +2,7 @@
 use Rattle.std.specs.Prelude.{ℕ}
 use Rattle.lexer.specs.declared.fault.LexFault.TheVariants.{NoToken, OutOfRange}
 use Rattle.text.specs.declared.fault.CompileFault.TheVariants.{TooLong, Lex, Unexpected, Unknown, TooManyNodes, NoRoom}
-use Rattle.record.specs.declared.fault.RecordFault.TheVariants as record
+use Rattle.record.specs.declared.fault.RecordFault.TheVariants as received
 use Rattle.typing.specs.declared.fault.AcceptFault.TheVariants.{Record, ShortTable, NoType, LongType}
 use Rattle.run.specs.declared.fault.RunFault.TheVariants.{WrongCount, NotWaiting, WrongSteps}
 use Rattle.trial.specs.declared.fault.Layer.{Layer}
@@ -18,15 +18,15 @@ number_of (Text (Unexpected place)) = 55
 number_of (Text (Unknown place)) = 57
 number_of (Text TooManyNodes) = 58
 number_of (Text NoRoom) = 59
-number_of (Rule (Record record.Length)) = 1
-number_of (Rule (Record record.Version)) = 2
-number_of (Rule (Record record.Readings)) = 3
-number_of (Rule (Record (record.NoNode place))) = 4
-number_of (Rule (Record (record.TooManyNodes place))) = 5
-number_of (Rule (Record (record.UnknownKind place))) = 6
-number_of (Rule (Record (record.CutShort place))) = 7
-number_of (Rule (Record (record.Unbound place))) = 8
-number_of (Rule (Record (record.Spare place))) = 9
+number_of (Rule (Record received.Length)) = 1
+number_of (Rule (Record received.Version)) = 2
+number_of (Rule (Record received.Readings)) = 3
+number_of (Rule (Record (received.NoNode place))) = 4
+number_of (Rule (Record (received.TooManyNodes place))) = 5
+number_of (Rule (Record (received.UnknownKind place))) = 6
+number_of (Rule (Record (received.CutShort place))) = 7
+number_of (Rule (Record (received.Unbound place))) = 8
+number_of (Rule (Record (received.Spare place))) = 9
 number_of (Rule ShortTable) = 10
 number_of (Rule (NoType node)) = 11
 number_of (Rule LongType) = 12
@@ -43,15 +43,15 @@ place_of (Text (Unexpected place)) = place
 place_of (Text (Unknown place)) = place
 place_of (Text TooManyNodes) = 0
 place_of (Text NoRoom) = 0
-place_of (Rule (Record record.Length)) = 0
-place_of (Rule (Record record.Version)) = 2
-place_of (Rule (Record record.Readings)) = 3
-place_of (Rule (Record (record.NoNode place))) = place
-place_of (Rule (Record (record.TooManyNodes place))) = place
-place_of (Rule (Record (record.UnknownKind place))) = place
-place_of (Rule (Record (record.CutShort place))) = place
-place_of (Rule (Record (record.Unbound place))) = place
-place_of (Rule (Record (record.Spare place))) = place
+place_of (Rule (Record received.Length)) = 0
+place_of (Rule (Record received.Version)) = 2
+place_of (Rule (Record received.Readings)) = 3
+place_of (Rule (Record (received.NoNode place))) = place
+place_of (Rule (Record (received.TooManyNodes place))) = place
+place_of (Rule (Record (received.UnknownKind place))) = place
+place_of (Rule (Record (received.CutShort place))) = place
+place_of (Rule (Record (received.Unbound place))) = place
+place_of (Rule (Record (received.Spare place))) = place
 place_of (Rule ShortTable) = 0
 place_of (Rule (NoType node)) = node
 place_of (Rule LongType) = 0
