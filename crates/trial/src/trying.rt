@@ -81,12 +81,10 @@ fn grant_where_it_waits<S: BareStore + Store<Elem = Value>>(
     ensures cost { S.Store.cost run.new.store ≡ S.Store.cost run.old.store }
     ensures stands { (t : Tree) (readings : List ℤ) (g : ℕ) → IsAt S.Store.lists S.Store.whole S.Store.room S.Store.cost run.old t readings g → IsAt S.Store.lists S.Store.whole S.Store.room S.Store.cost run.new t readings (g + steps_added (state_of (reported run.old).state) result steps) }
 {
-    match run.ask().state {
-        State::Waiting => run.grant(steps),
-        State::Done(_) | State::Range { .. } | State::NoStore { .. } | State::NoStack { .. } => Ok(
-            (),
-        ),
-    }
+    let State::Waiting = run.ask().state else {
+        return Ok(());
+    };
+    run.grant(steps)
 }
 
 /// Rewinds a run that was started, grants it the steps where it waits, and asks it.
