@@ -2,7 +2,7 @@
 //! buffer have, and the record in hexadecimal.
 use crate::fields::{Fields, bytes, number};
 use crate::trouble::Trouble;
-use std::alloc::Global;
+use std::alloc::{AllocError, Global};
 use typing::accept::accept;
 use typing::rule::Rule;
 
@@ -19,10 +19,15 @@ pub(crate) fn answer(heap: Global, mut fields: Fields) -> Result<String, Trouble
         &mut types,
         &mut Rule::new(),
     )?;
-    let entries: Vec<String> = types[..count]
+    let entries = joined(heap, &types[..count])?;
+    Ok(format!(in heap; "ok {count} {entries}")?)
+}
+
+/// The entries of a type, joined by commas.
+pub(crate) fn joined(heap: Global, entries: &[u16]) -> Result<String, AllocError> {
+    let entries: Vec<String> = entries
         .iter()
         .map(|entry| entry.to_string(heap))
         .try_collect(heap)?;
-    let entries = entries.join(heap, ",")?;
-    Ok(format!(in heap; "ok {count} {entries}")?)
+    entries.join(heap, ",")
 }

@@ -20,7 +20,7 @@ pub(crate) fn answer(heap: Global, mut fields: Fields) -> Result<String, Trouble
 }
 
 /// A book of the names.
-fn book_of(heap: Global, names: &str) -> Result<Book, Trouble> {
+pub(crate) fn book_of(heap: Global, names: &str) -> Result<Book, Trouble> {
     let mut book = Book::new();
     let Some(names) = given(names) else {
         return Ok(book);

@@ -2,7 +2,7 @@
 use crate::fields::Fields;
 use crate::run_lines::After;
 use crate::trouble::Trouble;
-use crate::{accept_lines, compile_lines, run_lines, store_lines};
+use crate::{accept_lines, compile_lines, run_lines, store_lines, trial_lines};
 use std::alloc::{AllocError, Global};
 
 /// The answer to a line. Blank lines and comments are answered by themselves.
@@ -17,6 +17,7 @@ pub(crate) fn answer(heap: Global, line: &str) -> Result<String, AllocError> {
         "lists" => run_lines::answer(heap, fields, After::RoomAndLists),
         "run" => run_lines::answer(heap, fields, After::Room),
         "store" => store_lines::answer(heap, fields),
+        "trial" => trial_lines::answer(heap, fields),
         _ => Err(Trouble::Unreadable("no such kind of line")),
     };
     answer.or_else(|trouble| match trouble {

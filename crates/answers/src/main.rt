@@ -13,6 +13,7 @@ mod lines;
 mod memory;
 mod run_lines;
 mod store_lines;
+mod trial_lines;
 mod trouble;
 mod turns;
 

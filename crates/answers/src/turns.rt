@@ -2,7 +2,7 @@
 use crate::fields::{number, numbers};
 use crate::trouble::Trouble;
 use law::{Call, Reply, Turn};
-use run::{Found, State};
+use run::{Found, Report, State};
 use std::alloc::Global;
 use std::fmt;
 
@@ -51,8 +51,19 @@ impl fmt::Display for Told {
         match self.0 {
             Reply::Done => write!(f, "ok"),
             Reply::Refused(fault) => write!(f, "refused {}", fault.number()),
-            Reply::Told(report) => write!(f, "count={} {}", report.count, Reached(report.state)),
+            Reply::Told(report) => write!(f, "{}", Reported(report)),
         }
+    }
+}
+
+/// What ask tells, for a line.
+#[derive(Clone, Copy)]
+pub(crate) struct Reported(pub(crate) Report);
+
+impl fmt::Display for Reported {
+    fn fmt<W: fmt::Write>(&self, f: &mut fmt::Formatter<W>) -> fmt::Result {
+        let Report { count, state } = self.0;
+        write!(f, "count={count} {}", Reached(state))
     }
 }
 

@@ -20,7 +20,7 @@ use Rattle.law.specs.Turns.{started, since}
 use Rattle.law.specs.Law.{played, AsReckoned}
 
 -- what is told of a machine's state says of the stage what that state says
-told_state : (s : machine_state.State) → state_of (told s) ≡ machine.state_of s
+pub told_state : (s : machine_state.State) → state_of (told s) ≡ machine.state_of s
 told_state Waiting = refl
 told_state (Done (value.Number k)) = refl
 told_state (Done (value.Truth b)) = refl
