@@ -10,10 +10,11 @@ use flat::slot::Slot;
 use linked::cell::Cell;
 use linked::linked::LinkedStore;
 use messages::rule_text::RuleText;
-use std::alloc::Global;
+use std::alloc::{AllocError, Global};
 use store::blank::Blank;
 use store::contract::{BareStore, Store};
-use trial::{Success, TrialFault, Tried, trial};
+use syntax::limits::MOST_RECORD;
+use trial::{TrialFault, Tried, trial};
 use typing::rule::Rule;
 use values::Value;
 use verdicts::verdict::{MOST_ENTRIES, Refused, TABLE};
@@ -58,6 +59,26 @@ pub(crate) fn try_out(rt: &HostRuntime, attempt: &Attempt) -> Result<String, Fai
     }
 }
 
+/// What a trial is lent, enough for every text.
+#[derive(Drop)]
+struct Buffers {
+    record: Vec<u8>,
+    first: Vec<u16>,
+    second: Vec<u16>,
+    types: Vec<u16>,
+}
+
+impl Buffers {
+    fn new(heap: Global) -> Result<Buffers, AllocError> {
+        Ok(Buffers {
+            record: vec![in heap; 0u8; MOST_RECORD]?,
+            first: vec![in heap; 0u16; TABLE]?,
+            second: vec![in heap; 0u16; TABLE]?,
+            types: vec![in heap; 0u16; MOST_ENTRIES]?,
+        })
+    }
+}
+
 /// Tries a text over a store.
 fn over<S: BareStore + Store<Elem = Value> + Drop>(
     heap: Global,
@@ -68,10 +89,7 @@ fn over<S: BareStore + Store<Elem = Value> + Drop>(
     unit: &'static str,
 ) -> Result<String, Failure> {
     let whole = store.free();
-    let mut record = vec![in heap; 0u8; attempt.origin.room]?;
-    let mut first = vec![in heap; 0u16; TABLE]?;
-    let mut second = vec![in heap; 0u16; TABLE]?;
-    let mut types = vec![in heap; 0u16; MOST_ENTRIES]?;
+    let mut lent = Buffers::new(heap)?;
     let Tried {
         place,
         store,
@@ -79,33 +97,34 @@ fn over<S: BareStore + Store<Elem = Value> + Drop>(
     } = trial(
         text.text,
         text.book,
-        &mut record,
-        &mut first,
-        &mut second,
-        &mut types,
+        &mut lent.record,
+        &mut lent.first,
+        &mut lent.second,
+        &mut lent.types,
         Rule::new(),
         store,
         attempt.readings.as_slice(),
         steps,
     );
-    let Success {
-        bytes,
-        entries,
-        report,
-    } = result.try_map_err(|fault| why(heap, text, fault))?;
+    let success = result.try_map_err(|fault| why(heap, text, fault))?;
     all_named(heap, "trial", text)?;
-    let used = whole.saturating_sub(store.free());
     let ending = Ending {
-        report,
-        used,
+        report: success.report,
+        used: whole.saturating_sub(store.free()),
         whole,
         unit,
     };
-    let type_words = in_words(heap, &types[..entries])?;
+    let type_words = in_words(heap, &lent.types[..success.entries])?;
+    let figures = figures(heap, success.bytes, &place)?;
+    Ok(format!(in heap; "{ending}{type_words}\n{figures}\n")?)
+}
+
+/// The counts of a record and its rule.
+fn figures(heap: Global, bytes: usize, rule: &Rule) -> Result<String, AllocError> {
     let bytes = Counted(bytes, "byte");
-    let nodes = Counted(place.received.nodes.len(), "node");
-    let readings = Counted(place.received.readings, "reading");
-    Ok(format!(in heap; "{ending}{type_words}\n{bytes}, {nodes}, {readings}\n")?)
+    let nodes = Counted(rule.received.nodes.len(), "node");
+    let readings = Counted(rule.received.readings, "reading");
+    format!(in heap; "{bytes}, {nodes}, {readings}")
 }
 
 /// Why a trial was refused. The record of a rule without a type is made once more, to point at its text.
