@@ -27,6 +27,7 @@ pub enum Command<'a> {
     /// The type of the record in a file.
     CheckRecord(&'a str),
     Run(Attempt<'a>),
+    Trial(Attempt<'a>),
 }
 
 /// A word behind a command.
@@ -92,10 +93,11 @@ pub(crate) fn read_call<'a>(heap: Global, words: &'a [String]) -> Result<Command
         "compile" => compile(heap, words),
         "check" => check(heap, words),
         "run" => run_arguments::run(heap, words),
+        "trial" => run_arguments::trial(heap, words),
         other => Err(wrong(
             heap,
             format_args!(
-                "there is no command `{other}`: it is run, compile, check, explain or help"
+                "there is no command `{other}`: it is run, trial, compile, check, explain or help"
             ),
         )),
     }

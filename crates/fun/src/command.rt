@@ -3,7 +3,7 @@ use crate::arguments::{Command, read_call};
 use crate::explain::{KNOWN, explanation};
 use crate::failure::Failure;
 use crate::usage::USAGE;
-use crate::{checking, compiling, running};
+use crate::{checking, compiling, running, trying};
 use std::alloc::Global;
 use std::env;
 
@@ -18,6 +18,7 @@ pub(crate) fn run(rt: &HostRuntime) -> Result<String, Failure> {
         Command::Check(origin) => checking::check(rt, &origin),
         Command::CheckRecord(file) => checking::check_record(rt, file),
         Command::Run(attempt) => running::run(rt, &attempt),
+        Command::Trial(attempt) => trying::try_out(rt, &attempt),
     }
 }
 

@@ -18,6 +18,7 @@ mod record_file;
 mod run_arguments;
 mod running;
 mod source;
+mod trying;
 mod usage;
 
 use std::process::ExitCode;

@@ -9,11 +9,17 @@ use store::contract::Store;
 #[derive(Drop)]
 pub(crate) struct Outcome<'a> {
     turns: Vec<Turn<'a>>,
-    report: Report,
-    used: u32,
-    whole: u32,
+    ending: Ending,
+}
+
+/// What a run told at its end, and the room that it took.
+#[derive(Clone, Copy)]
+pub(crate) struct Ending {
+    pub(crate) report: Report,
+    pub(crate) used: u32,
+    pub(crate) whole: u32,
     /// What the room is counted in.
-    unit: &'static str,
+    pub(crate) unit: &'static str,
 }
 
 impl<'a> Outcome<'a> {
@@ -29,18 +35,21 @@ impl<'a> Outcome<'a> {
             store,
             report,
         } = played;
+        let used = whole.saturating_sub(store.free());
         Outcome {
             turns,
-            report,
-            used: whole.saturating_sub(store.free()),
-            whole,
-            unit,
+            ending: Ending {
+                report,
+                used,
+                whole,
+                unit,
+            },
         }
     }
 
     /// Whether another run was told the same at each call.
     pub(crate) fn tells_the_same(&self, other: &Outcome) -> bool {
-        self.report == other.report
+        self.ending.report == other.ending.report
             && self
                 .turns
                 .iter()
@@ -55,6 +64,12 @@ impl<'a> Outcome<'a> {
 }
 
 impl fmt::Display for Outcome<'_> {
+    fn fmt<W: fmt::Write>(&self, f: &mut fmt::Formatter<W>) -> fmt::Result {
+        write!(f, "{}", self.ending)
+    }
+}
+
+impl fmt::Display for Ending {
     fn fmt<W: fmt::Write>(&self, f: &mut fmt::Formatter<W>) -> fmt::Result {
         let Report { count, state } = self.report;
         writeln!(f, "{}", Answer(state))?;

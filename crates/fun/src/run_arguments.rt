@@ -1,8 +1,10 @@
-//! What the words behind `run` ask for.
-use crate::arguments::{Command, Word, wrong};
+//! What the words behind `run` and `trial` ask for.
+use crate::arguments;
+use crate::arguments::{Command, Word};
 use crate::failure::Failure;
 use messages::rule_text::Origin;
 use std::alloc::Global;
+use std::fmt::Display;
 use syntax::limits::MOST_RECORD;
 
 /// As many steps as a run may be granted.
@@ -57,7 +59,7 @@ enum Awaited {
 
 impl Awaited {
     /// The option that a word with a minus is.
-    fn by(heap: Global, option: &str) -> Result<Awaited, Failure> {
+    fn by(heap: Global, command: &str, option: &str) -> Result<Awaited, Failure> {
         match option {
             "--steps" => Ok(Awaited::Steps),
             "--slots" => Ok(Awaited::Slots),
@@ -65,8 +67,9 @@ impl Awaited {
             "--room" => Ok(Awaited::Room),
             _ => Err(wrong(
                 heap,
+                command,
                 format_args!(
-                    "run: there is no option `{option}`: it is --steps, --slots, --store or --room"
+                    "there is no option `{option}`: it is --steps, --slots, --store or --room"
                 ),
             )),
         }
@@ -75,10 +78,10 @@ impl Awaited {
     /// What is missing where the words end behind the option.
     fn missing(self) -> &'static str {
         match self {
-            Awaited::Steps => "run: a count of steps is missing behind --steps",
-            Awaited::Slots => "run: counts of steps, as 5,5,10, are missing behind --slots",
-            Awaited::Store => "run: linked, flat or both is missing behind --store",
-            Awaited::Room => "run: a count of cells or slots is missing behind --room",
+            Awaited::Steps => "a count of steps is missing behind --steps",
+            Awaited::Slots => "counts of steps, as 5,5,10, are missing behind --slots",
+            Awaited::Store => "linked, flat or both is missing behind --store",
+            Awaited::Room => "a count of cells or slots is missing behind --room",
         }
     }
 }
@@ -86,6 +89,8 @@ impl Awaited {
 /// What the words said so far.
 #[derive(Drop)]
 struct Given<'a> {
+    /// The command that the words stand behind.
+    command: &'static str,
     file: Option<&'a str>,
     names: Vec<&'a str>,
     readings: Vec<i32>,
@@ -97,8 +102,9 @@ struct Given<'a> {
 
 impl<'a> Given<'a> {
     /// Nothing yet.
-    fn new(heap: Global) -> Given<'a> {
+    fn new(heap: Global, command: &'static str) -> Given<'a> {
         Given {
+            command,
             file: None,
             names: Vec::new(heap),
             readings: Vec::new(heap),
@@ -111,11 +117,12 @@ impl<'a> Given<'a> {
 
     /// Takes the value of an option.
     fn set(&mut self, heap: Global, option: Awaited, value: &str) -> Result<(), Failure> {
+        let command = self.command;
         match option {
-            Awaited::Steps => self.steps = Some(steps_of(heap, "--steps", value)?),
-            Awaited::Slots => self.slots = Some(slots_of(heap, value)?),
-            Awaited::Store => self.stores = stores_of(heap, value)?,
-            Awaited::Room => self.room = room_of(heap, value)?,
+            Awaited::Steps => self.steps = Some(steps_of(heap, command, "--steps", value)?),
+            Awaited::Slots => self.slots = Some(slots_of(heap, command, value)?),
+            Awaited::Store => self.stores = stores_of(heap, command, value)?,
+            Awaited::Room => self.room = room_of(heap, command, value)?,
         }
         Ok(())
     }
@@ -127,7 +134,7 @@ impl<'a> Given<'a> {
             return Ok(());
         }
         let (name, value) = word.split_once('=').unwrap_or((word, ""));
-        let reading = reading_of(heap, name, value)?;
+        let reading = reading_of(heap, self.command, name, value)?;
         self.names.push(name)?;
         self.readings.push(reading)?;
         Ok(())
@@ -136,6 +143,7 @@ impl<'a> Given<'a> {
     /// What is asked for, now that the words have ended.
     fn attempt(self, heap: Global) -> Result<Attempt<'a>, Failure> {
         let Given {
+            command,
             file,
             names,
             readings,
@@ -145,11 +153,11 @@ impl<'a> Given<'a> {
             room,
         } = self;
         let Some(file) = file else {
-            return Err(wrong(heap, "run: the file with the rule's text is missing"));
+            return Err(wrong(heap, command, "the file with the rule's text is missing"));
         };
         let grants = match (steps, slots) {
             (Some(_), Some(_)) => {
-                return Err(wrong(heap, "run: it is --steps or --slots, and not both"));
+                return Err(wrong(heap, command, "it is --steps or --slots, and not both"));
             }
             (None, Some(slots)) => Grants::Slots(slots),
             (steps, None) => Grants::Once(steps.unwrap_or(STEPS)),
@@ -171,86 +179,111 @@ impl<'a> Given<'a> {
 
 /// Reads the words behind `run`.
 pub(crate) fn run<'a>(heap: Global, words: &'a [String]) -> Result<Command<'a>, Failure> {
-    let mut given = Given::new(heap);
+    let attempt = read(heap, "run", words)?;
+    Ok(attempt.map_or(Command::Help, |attempt| Command::Run(attempt)))
+}
+
+/// Reads the words behind `trial`.
+pub(crate) fn trial<'a>(heap: Global, words: &'a [String]) -> Result<Command<'a>, Failure> {
+    let attempt = read(heap, "trial", words)?;
+    Ok(attempt.map_or(Command::Help, |attempt| Command::Trial(attempt)))
+}
+
+/// A wrong call of a command.
+pub(crate) fn wrong(heap: Global, command: &str, why: impl Display + Drop) -> Failure {
+    arguments::wrong(heap, format_args!("{command}: {why}"))
+}
+
+/// Reads the words behind a command; nothing where they ask for help.
+fn read<'a>(
+    heap: Global,
+    command: &'static str,
+    words: &'a [String],
+) -> Result<Option<Attempt<'a>>, Failure> {
+    let mut given = Given::new(heap, command);
     let mut awaited = None;
     for word in words {
         let word = word.as_str();
         match (awaited.take(), Word::from(word)) {
             (Some(option), _) => given.set(heap, option, word)?,
-            (None, Word::Help) => return Ok(Command::Help),
-            (None, Word::Option(option)) => awaited = Some(Awaited::by(heap, option)?),
+            (None, Word::Help) => return Ok(None),
+            (None, Word::Option(option)) => awaited = Some(Awaited::by(heap, command, option)?),
             (None, Word::Plain(word)) => given.add(heap, word)?,
         }
     }
     if let Some(option) = awaited {
-        return Err(wrong(heap, option.missing()));
+        return Err(wrong(heap, command, option.missing()));
     }
-    Ok(Command::Run(given.attempt(heap)?))
+    given.attempt(heap).map(|attempt| Some(attempt))
 }
 
 /// The value of a reading. Numbers are written as in the text of a rule.
-fn reading_of(heap: Global, name: &str, value: &str) -> Result<i32, Failure> {
+fn reading_of(heap: Global, command: &str, name: &str, value: &str) -> Result<i32, Failure> {
     if value.is_empty() {
         return Err(wrong(
             heap,
-            format_args!("run: `{name}` has no value: write `{name}=0` for the value 0"),
+            command,
+            format_args!("`{name}` has no value: write `{name}=0` for the value 0"),
         ));
     }
     let digits = value.strip_prefix('-').unwrap_or(value);
     if digits.is_empty() || !digits.bytes().all(|byte| byte.is_ascii_digit()) {
         return Err(wrong(
             heap,
-            format_args!("run: the value of `{name}` has to be a number, and `{value}` is none"),
+            command,
+            format_args!("the value of `{name}` has to be a number, and `{value}` is none"),
         ));
     }
     value.parse::<i32>().map_err(|_| wrong(
         heap,
+        command,
         format_args!(
-            "run: the value of `{name}` is out of range: {value} is not from -2147483648 to 2147483647"
+            "the value of `{name}` is out of range: {value} is not from -2147483648 to 2147483647"
         ),
     ))
 }
 
 /// A count of steps.
-fn steps_of(heap: Global, option: &str, value: &str) -> Result<u32, Failure> {
+fn steps_of(heap: Global, command: &str, option: &str, value: &str) -> Result<u32, Failure> {
     match value.parse::<u32>() {
         Ok(steps) if 1 <= steps && steps <= MOST_STEPS => Ok(steps),
         _ => Err(wrong(
             heap,
-            format_args!(
-                "run: `{value}` behind {option} is no count of steps from 1 to {MOST_STEPS}"
-            ),
+            command,
+            format_args!("`{value}` behind {option} is no count of steps from 1 to {MOST_STEPS}"),
         )),
     }
 }
 
 /// Counts of steps with commas between them.
-fn slots_of(heap: Global, value: &str) -> Result<Vec<u32>, Failure> {
+fn slots_of(heap: Global, command: &str, value: &str) -> Result<Vec<u32>, Failure> {
     value
         .split(',')
-        .map(|slot| steps_of(heap, "--slots", slot))
+        .map(|slot| steps_of(heap, command, "--slots", slot))
         .try_collect(heap)
 }
 
-fn stores_of(heap: Global, value: &str) -> Result<Stores, Failure> {
+fn stores_of(heap: Global, command: &str, value: &str) -> Result<Stores, Failure> {
     match value {
         "linked" => Ok(Stores::Linked),
         "flat" => Ok(Stores::Flat),
         "both" => Ok(Stores::Both),
         _ => Err(wrong(
             heap,
-            format_args!("run: there is no store `{value}`: it is linked, flat or both"),
+            command,
+            format_args!("there is no store `{value}`: it is linked, flat or both"),
         )),
     }
 }
 
 /// A count of cells or slots; more than a store counts is as good as that.
-fn room_of(heap: Global, value: &str) -> Result<usize, Failure> {
+fn room_of(heap: Global, command: &str, value: &str) -> Result<usize, Failure> {
     value
         .parse::<usize>()
         .map(|room| room.min(MOST_ROOM))
         .map_err(|_| wrong(
             heap,
-            format_args!("run: `{value}` behind --room is no count of cells or slots"),
+            command,
+            format_args!("`{value}` behind --room is no count of cells or slots"),
         ))
 }

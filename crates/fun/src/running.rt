@@ -2,8 +2,7 @@
 use crate::compiling::{Fetched, record_of};
 use crate::failure::Failure;
 use crate::outcome::Outcome;
-use crate::run_arguments::{Attempt, Grants, Stores};
-use crate::usage::SEE_HELP;
+use crate::run_arguments::{Attempt, Grants, Stores, wrong};
 use flat::flat_store::FlatStore;
 use flat::slot::Slot;
 use law::{Both, Call, Turn, play, play_two};
@@ -26,7 +25,7 @@ pub(crate) fn run(rt: &HostRuntime, attempt: &Attempt) -> Result<String, Failure
     let fetched = Fetched::from(rt, &attempt.origin)?;
     let text = fetched.rule(&attempt.origin);
     let record = record_of(heap, text)?;
-    all_named(heap, text)?;
+    all_named(heap, "run", text)?;
     let accepted = || rule_of(heap, text, record.as_slice());
     Ok(match attempt.stores {
         Stores::Linked => over_linked(heap, attempt, accepted()?)?,
@@ -36,17 +35,16 @@ pub(crate) fn run(rt: &HostRuntime, attempt: &Attempt) -> Result<String, Failure
 }
 
 /// Refuses a reading that the text does not name: it was meant as another, or the text was.
-fn all_named(heap: Global, rule: RuleText) -> Result<(), Failure> {
+pub(crate) fn all_named(heap: Global, command: &str, rule: RuleText) -> Result<(), Failure> {
     for name in &rule.origin.names {
         let named = Tokens::of(rule.text).any(|piece| {
             matches!(piece.token, Token::Name(found) if found == name.as_bytes())
         });
         if !named {
-            return Err(Failure::told(
+            return Err(wrong(
                 heap,
-                &format_args!(
-                    "error: run: the rule has no reading `{name}`: its text does not name it\n  = help: {SEE_HELP}\n"
-                ),
+                command,
+                format_args!("the rule has no reading `{name}`: its text does not name it"),
             ));
         }
     }

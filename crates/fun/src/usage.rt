@@ -17,6 +17,11 @@ fun: compiles, checks and runs FUN rules for heat-pump controllers
                             it, linked
       --room N              lend the store so many cells or slots, at most 65535; without it, 256
 
+  fun trial FILE NAME=VALUE..
+                            try the rule in FILE: do all in one call, from its text to its answer,
+                            and print what run and check print; FILE, NAME=VALUE.., --steps, --store
+                            and --room are as above, but it takes one store, linked or flat
+
   fun compile FILE NAME..   print the record of the rule in FILE: its bytes in hexadecimal,
                             then how many bytes and nodes it has
       FILE                  the rule's text; - reads standard input
@@ -47,6 +52,12 @@ that was run ends with status 0, whether it has an answer, waits for more steps 
   1
   2 steps, over
   0 of 256 cells used
+  $ fun trial defrost.fun coil=80
+  1
+  2 steps, over
+  0 of 256 cells used
+  int
+  24 bytes, 6 nodes, 1 reading
 ";
 
 /// What is said behind a wrong call.

@@ -14,4 +14,4 @@ mod span;
 mod standing;
 pub mod verdict;
 pub mod walk;
-mod words;
+pub mod words;

@@ -33,7 +33,7 @@ struct Words {
 }
 
 /// A type in words.
-pub(crate) fn in_words(heap: Global, spelling: &[u16]) -> Result<String, AllocError> {
+pub fn in_words(heap: Global, spelling: &[u16]) -> Result<String, AllocError> {
     let mut words = Words {
         written: String::new(heap),
         open: Vec::new(heap),
