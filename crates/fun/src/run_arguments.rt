@@ -179,14 +179,18 @@ impl<'a> Given<'a> {
 
 /// Reads the words behind `run`.
 pub(crate) fn run<'a>(heap: Global, words: &'a [String]) -> Result<Command<'a>, Failure> {
-    let attempt = read(heap, "run", words)?;
-    Ok(attempt.map_or(Command::Help, |attempt| Command::Run(attempt)))
+    match read(heap, "run", words)? {
+        Some(attempt) => Ok(Command::Run(attempt)),
+        None => Ok(Command::Help),
+    }
 }
 
 /// Reads the words behind `trial`.
 pub(crate) fn trial<'a>(heap: Global, words: &'a [String]) -> Result<Command<'a>, Failure> {
-    let attempt = read(heap, "trial", words)?;
-    Ok(attempt.map_or(Command::Help, |attempt| Command::Trial(attempt)))
+    match read(heap, "trial", words)? {
+        Some(attempt) => Ok(Command::Trial(attempt)),
+        None => Ok(Command::Help),
+    }
 }
 
 /// A wrong call of a command.
@@ -214,7 +218,8 @@ fn read<'a>(
     if let Some(option) = awaited {
         return Err(wrong(heap, command, option.missing()));
     }
-    given.attempt(heap).map(|attempt| Some(attempt))
+    let attempt = given.attempt(heap)?;
+    Ok(Some(attempt))
 }
 
 /// The value of a reading. Numbers are written as in the text of a rule.
