@@ -268,7 +268,7 @@ pub fn enter<W: Environments>(
             Ok(value) => Entered::Value(value),
             Err(_) => unreachable!(),
         },
-        Node::Reading(number) => match store.reading(number as u32) {
+        Node::Reading(reading) => match store.reading(reading as u32) {
             Some(value) => Entered::Value(value),
             None => unreachable!(),
         },
