@@ -8,6 +8,7 @@ use Rattle.readings.specs.Behind.{as_values, behind}
 use Rattle.reckoning.specs.Room.{Room}
 use Rattle.reckoning.specs.Room as reckoning
 use Rattle.reckoning.specs.Reckoning.{reckoned}
+use Rattle.machine.specs.Places.{rule_of}
 use Rattle.machine.specs.Reducing.{room_of}
 use Rattle.machine.specs.Running.{StandsAt, rooted}
 use Rattle.machine.specs.Running as machine
@@ -37,7 +38,7 @@ module _ {S : Type 0} (lists : S → Lists Value) (whole room : S → ℕ) (cost
       (lists run.store))
   ended run r t turns at same =
       let now = since (started r) turns in
-      let stands = subst (λ n. StandsAt run.rule.nodes.items (behind (as_values now.readings) (lists run.store))
+      let stands = subst (λ n. StandsAt (rule_of run.rule.nodes.items now.readings) (behind (as_values now.readings) (lists run.store))
       (reckoning.behind n (room_of (whole run.store) (cost run.store))) (room run.store) (rooted 0 now.readings) run.machine
       (reckoned (reckoning.behind n (room_of (whole run.store) (cost run.store))) now.readings t now.granted)) same at.stands in
       record {

@@ -17,6 +17,7 @@ use Rattle.reckoning.specs.Room.{Room, free}
 use Rattle.reckoning.specs.Room as reckoning
 use Rattle.reckoning.specs.Reckoning.{Reckoned, reckoned, state}
 use Rattle.machine.specs.Handles.{Owned}
+use Rattle.machine.specs.Places.{rule_of}
 use Rattle.machine.specs.Reducing.{room_of}
 use Rattle.machine.specs.Running.{rooted}
 use Rattle.arithmetic.specs.declared.OutOfRange.{OutOfRange}
@@ -76,7 +77,7 @@ pub record AsReckoned (p : Play) : Type 0 where
   pub counted : p.report.count ≡ (reckoned_of p).count
   pub left_free : p.free ≡ free (play_room p) (reckoned_of p).made
   pub lists_made :
-      Owned p.nodes (behind (as_values (readings_of p)) p.lists) (rooted 0 (readings_of p)) (reckoned_of p).made
+      Owned (rule_of p.nodes (readings_of p)) (behind (as_values (readings_of p)) p.lists) (rooted 0 (readings_of p)) (reckoned_of p).made
 
 -- What holds of every run that was played.
 pub record HoldsOf (p : Play) : Type 0 where

@@ -1,6 +1,7 @@
 pub mod Placing
 pub mod Stacking
 pub mod Entering
+pub mod Variables
 pub mod Settling
 pub mod Keeping
 pub mod Ranges

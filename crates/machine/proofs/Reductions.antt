@@ -1,8 +1,7 @@
 -- The innermost operation is reduced. Assumes nothing.
-use Rattle.std.proofs.Common.{◌≡◌, ℕ, ◌+◌, ◌-◌, Bool, true, false, List, ℤ, refl, sym, ap, ◌∙◌, subst, arith}
+use Rattle.std.proofs.Common.{◌≡◌, ℕ, ◌+◌, ◌-◌, Bool, true, false, ℤ, refl, sym, ap, ◌∙◌, subst, arith}
 use Rattle.std.specs.Int.Signed.{le_z}
 use Rattle.syntax.specs.Tree.{nodes}
-use Rattle.syntax.specs.declared.node.Node.{Node}
 use Rattle.store.specs.Lists.{Lists}
 use Rattle.values.specs.declared.Value.{Value}
 use Rattle.values.specs.declared.Value.TheVariants.{Number, Truth, Function}
@@ -24,6 +23,7 @@ use Rattle.machine.specs.Handles.{StandsFor}
 use Rattle.machine.specs.Opens.{OpenFor, Stacked, weighed}
 use Rattle.machine.specs.Reducing.{OnTop, Moved, Reduces, Popped}
 use Rattle.machine.proofs.Stacking.{Top, top_of}
+use Rattle.machine.specs.Places.{Rule}
 
 -- what a run value that is no number, or no truth, stands for
 
@@ -36,20 +36,20 @@ NotTruth x = (b : Bool) → x ≡ Truth b → ⊥
 abbrev pub NotFunction : Value → Type 0
 NotFunction x = (n h : ℕ) → x ≡ Function n h → ⊥
 
-module _ (ns : List Node) (lists : Lists Value) where
-  pub is_number : (i : ℤ) (v : plain.Value) → StandsFor ns lists (Number i) v → v ≡ plain.number i
+module _ (rule : Rule) (lists : Lists Value) where
+  pub is_number : (i : ℤ) (v : plain.Value) → StandsFor rule lists (Number i) v → v ≡ plain.number i
   is_number i (plain.number k) s = ap plain.number (sym s)
   is_number i (plain.truth b) s = absurd s
   is_number i (plain.function n b env) s = absurd s
 
-  pub is_truth : (c : Bool) (v : plain.Value) → StandsFor ns lists (Truth c) v → v ≡ plain.truth c
+  pub is_truth : (c : Bool) (v : plain.Value) → StandsFor rule lists (Truth c) v → v ≡ plain.truth c
   is_truth c (plain.number k) s = absurd s
   is_truth c (plain.truth b) s = ap plain.truth (sym s)
   is_truth c (plain.function n b env) s = absurd s
 
   -- a value that is not of the kind wanted: nothing fits
 
-  sum_left_stuck : (n : ℕ) (u : plain.Value) (x : Value) (v : plain.Value) → NotNumber x → StandsFor ns lists x v → move (inside (sum_left n u) (done v)) ≡ stuck
+  sum_left_stuck : (n : ℕ) (u : plain.Value) (x : Value) (v : plain.Value) → NotNumber x → StandsFor rule lists x v → move (inside (sum_left n u) (done v)) ≡ stuck
   sum_left_stuck n u (Number i) v not s = absurd (not i refl)
   sum_left_stuck n u (Truth c) (plain.number k) not s = absurd s
   sum_left_stuck n u (Function m h) (plain.number k) not s = absurd s
@@ -58,7 +58,7 @@ module _ (ns : List Node) (lists : Lists Value) where
   sum_left_stuck n u (Truth c) (plain.function m b env) not s = refl
   sum_left_stuck n u (Function m h) (plain.function k b env) not s = refl
 
-  sum_right_stuck : (n : ℕ) (i : ℤ) (y : Value) (u : plain.Value) → NotNumber y → StandsFor ns lists y u → move (inside (sum_left n u) (done (plain.number i))) ≡ stuck
+  sum_right_stuck : (n : ℕ) (i : ℤ) (y : Value) (u : plain.Value) → NotNumber y → StandsFor rule lists y u → move (inside (sum_left n u) (done (plain.number i))) ≡ stuck
   sum_right_stuck n i (Number j) u not s = absurd (not j refl)
   sum_right_stuck n i (Truth c) (plain.number k) not s = absurd s
   sum_right_stuck n i (Function m h) (plain.number k) not s = absurd s
@@ -67,7 +67,7 @@ module _ (ns : List Node) (lists : Lists Value) where
   sum_right_stuck n i (Truth c) (plain.function m b env) not s = refl
   sum_right_stuck n i (Function m h) (plain.function k b env) not s = refl
 
-  compare_left_stuck : (n : ℕ) (u : plain.Value) (x : Value) (v : plain.Value) → NotNumber x → StandsFor ns lists x v → move (inside (compare_left n u) (done v)) ≡ stuck
+  compare_left_stuck : (n : ℕ) (u : plain.Value) (x : Value) (v : plain.Value) → NotNumber x → StandsFor rule lists x v → move (inside (compare_left n u) (done v)) ≡ stuck
   compare_left_stuck n u (Number i) v not s = absurd (not i refl)
   compare_left_stuck n u (Truth c) (plain.number k) not s = absurd s
   compare_left_stuck n u (Function m h) (plain.number k) not s = absurd s
@@ -76,7 +76,7 @@ module _ (ns : List Node) (lists : Lists Value) where
   compare_left_stuck n u (Truth c) (plain.function m b env) not s = refl
   compare_left_stuck n u (Function m h) (plain.function k b env) not s = refl
 
-  compare_right_stuck : (n : ℕ) (i : ℤ) (y : Value) (u : plain.Value) → NotNumber y → StandsFor ns lists y u → move (inside (compare_left n u) (done (plain.number i))) ≡ stuck
+  compare_right_stuck : (n : ℕ) (i : ℤ) (y : Value) (u : plain.Value) → NotNumber y → StandsFor rule lists y u → move (inside (compare_left n u) (done (plain.number i))) ≡ stuck
   compare_right_stuck n i (Number j) u not s = absurd (not j refl)
   compare_right_stuck n i (Truth c) (plain.number k) not s = absurd s
   compare_right_stuck n i (Function m h) (plain.number k) not s = absurd s
@@ -85,7 +85,7 @@ module _ (ns : List Node) (lists : Lists Value) where
   compare_right_stuck n i (Truth c) (plain.function m b env) not s = refl
   compare_right_stuck n i (Function m h) (plain.function k b env) not s = refl
 
-  condition_stuck : (n : ℕ) (t e : Term) (env : Env) (x : Value) (v : plain.Value) → NotTruth x → StandsFor ns lists x v → move (inside (condition n t e env) (done v)) ≡ stuck
+  condition_stuck : (n : ℕ) (t e : Term) (env : Env) (x : Value) (v : plain.Value) → NotTruth x → StandsFor rule lists x v → move (inside (condition n t e env) (done v)) ≡ stuck
   condition_stuck n t e env (Truth c) v not s = absurd (not c refl)
   condition_stuck n t e env (Number i) (plain.truth b) not s = absurd s
   condition_stuck n t e env (Function m h) (plain.truth b) not s = absurd s
@@ -94,7 +94,7 @@ module _ (ns : List Node) (lists : Lists Value) where
   condition_stuck n t e env (Number i) (plain.function m b f) not s = refl
   condition_stuck n t e env (Function m h) (plain.function k b f) not s = refl
 
-  pub applied_stuck : (n : ℕ) (u : plain.Value) (x : Value) (v : plain.Value) → NotFunction x → StandsFor ns lists x v → move (inside (applied n u) (done v)) ≡ stuck
+  pub applied_stuck : (n : ℕ) (u : plain.Value) (x : Value) (v : plain.Value) → NotFunction x → StandsFor rule lists x v → move (inside (applied n u) (done v)) ≡ stuck
   applied_stuck n u (Function m h) v not s = absurd (not m h refl)
   applied_stuck n u (Number i) (plain.function m b f) not s = absurd s
   applied_stuck n u (Truth c) (plain.function m b f) not s = absurd s
@@ -103,12 +103,12 @@ module _ (ns : List Node) (lists : Lists Value) where
   applied_stuck n u (Number i) (plain.truth b) not s = refl
   applied_stuck n u (Truth c) (plain.truth b) not s = refl
 
-  module _ (table : Operations) (op : Operation) (x : Value) (w : Work) (t : OnTop ns lists table op x w) where
-    abbrev pub top : Top ns lists table.ops table.depth t.found.opens
-    top = top_of ns lists table.ops table.depth t.found.opens t.some_open t.found.stacked
+  module _ (table : Operations) (op : Operation) (x : Value) (w : Work) (t : OnTop rule lists table op x w) where
+    abbrev pub top : Top rule lists table.ops table.depth t.found.opens
+    top = top_of rule lists table.ops table.depth t.found.opens t.some_open t.found.stacked
 
-    abbrev pub here : OpenFor ns lists op top.first
-    here = subst (λ y. OpenFor ns lists y top.first) t.is top.open_for
+    abbrev pub here : OpenFor rule lists op top.first
+    here = subst (λ y. OpenFor rule lists y top.first) t.is top.open_for
 
     whole_top : plugged top.rest (inside top.first (done t.found.value)) ≡ w
     whole_top = ap (λ os. plugged os (done t.found.value)) (sym top.is) ∙ t.found.whole
@@ -119,12 +119,12 @@ module _ (ns : List Node) (lists : Lists Value) where
         let inner : move (inside top.first (done t.found.value)) ≡ m = ap (λ y. move (inside y (done t.found.value))) a ∙ ap (λ y. move (inside o (done y))) b ∙ e in
         ap (λ y. move y) (sym whole_top) ∙ moves_inside.same_move top.rest (inside top.first (done t.found.value)) (λ r. n (sym inner ∙ r)) ∙ ap (λ y. within (plugged top.rest) y) inner
 
-    pub stacked_popped : (table' : Operations) → Popped table table' → Stacked ns lists table'.ops table'.depth top.rest
+    pub stacked_popped : (table' : Operations) → Popped table table' → Stacked rule lists table'.ops table'.depth top.rest
     stacked_popped table' p =
         let deep = top.deep in
         let low = p.1 in
         let d : table.depth - 1 ≡ table'.depth = omega arith in
-        subst (λ y. Stacked ns lists y table'.depth top.rest) (sym p.0) (subst (λ y. Stacked ns lists table.ops y top.rest) d top.stacked)
+        subst (λ y. Stacked rule lists y table'.depth top.rest) (sym p.0) (subst (λ y. Stacked rule lists table.ops y top.rest) d top.stacked)
 
 not_plain : (w : Work) → ¬ (plain w ≡ rests)
 not_plain w e = let z : ◌≡◌ {A = ℕ} 0 1 = cc in omega arith
@@ -138,104 +138,104 @@ not_makes n env w e = let z : ◌≡◌ {A = ℕ} 0 1 = cc in omega arith
 not_stuck : ¬ (stuck ≡ rests)
 not_stuck e = let z : ◌≡◌ {A = ℕ} 0 1 = cc in omega arith
 
-module _ (ns : List Node) (lists : Lists Value) (r : Room) (free : ℕ) (table : Operations) where
+module _ (rule : Rule) (lists : Lists Value) (r : Room) (free : ℕ) (table : Operations) where
   -- comparing
-  pub no_left_compared : (n : ℕ) (y x : Value) (w : Work) → NotNumber x → OnTop ns lists table (CompareLeft n y) x w → move w ≡ stuck
+  pub no_left_compared : (n : ℕ) (y x : Value) (w : Work) → NotNumber x → OnTop rule lists table (CompareLeft n y) x w → move w ≡ stuck
   no_left_compared n y x w not t =
-      let o = here ns lists table (CompareLeft n y) x w t in
-      moved ns lists table (CompareLeft n y) x w t (compare_left n o.0) t.found.value stuck o.1 refl (compare_left_stuck ns lists n o.0 x t.found.value not t.found.stands) not_stuck
+      let o = here rule lists table (CompareLeft n y) x w t in
+      moved rule lists table (CompareLeft n y) x w t (compare_left n o.0) t.found.value stuck o.1 refl (compare_left_stuck rule lists n o.0 x t.found.value not t.found.stands) not_stuck
 
-  pub no_right_compared : (n : ℕ) (y : Value) (i : ℤ) (w : Work) → NotNumber y → OnTop ns lists table (CompareLeft n y) (Number i) w → move w ≡ stuck
+  pub no_right_compared : (n : ℕ) (y : Value) (i : ℤ) (w : Work) → NotNumber y → OnTop rule lists table (CompareLeft n y) (Number i) w → move w ≡ stuck
   no_right_compared n y i w not t =
-      let o = here ns lists table (CompareLeft n y) (Number i) w t in
-      moved ns lists table (CompareLeft n y) (Number i) w t (compare_left n o.0) (plain.number i) stuck o.1 (is_number ns lists i t.found.value t.found.stands)
-      (compare_right_stuck ns lists n i y o.0 not o.2) not_stuck
+      let o = here rule lists table (CompareLeft n y) (Number i) w t in
+      moved rule lists table (CompareLeft n y) (Number i) w t (compare_left n o.0) (plain.number i) stuck o.1 (is_number rule lists i t.found.value t.found.stands)
+      (compare_right_stuck rule lists n i y o.0 not o.2) not_stuck
 
-  pub compared : (table' : Operations) (n : ℕ) (i j : ℤ) (w : Work) → OnTop ns lists table (CompareLeft n (Number j)) (Number i) w → Popped table table' →
-      Reduces ns r lists lists free free table' (reduced.Found (Truth (le_z i j))) w
+  pub compared : (table' : Operations) (n : ℕ) (i j : ℤ) (w : Work) → OnTop rule lists table (CompareLeft n (Number j)) (Number i) w → Popped table table' →
+      Reduces rule r lists lists free free table' (reduced.Found (Truth (le_z i j))) w
   compared table' n i j w t p =
-      let o = here ns lists table (CompareLeft n (Number j)) (Number i) w t in
-      let rest = (top ns lists table (CompareLeft n (Number j)) (Number i) w t).rest in
+      let o = here rule lists table (CompareLeft n (Number j)) (Number i) w t in
+      let rest = (top rule lists table (CompareLeft n (Number j)) (Number i) w t).rest in
       let u = plugged rest (done (plain.truth (le_z i j))) in
-      let e : move w ≡ plain u = moved ns lists table (CompareLeft n (Number j)) (Number i) w t (compare_left n (plain.number j)) (plain.number i) (plain (done (plain.truth (le_z i j))))
-      (o.1 ∙ ap (λ y. compare_left n y) (is_number ns lists j o.0 o.2)) (is_number ns lists i t.found.value t.found.stands) refl (not_plain _) in (
+      let e : move w ≡ plain u = moved rule lists table (CompareLeft n (Number j)) (Number i) w t (compare_left n (plain.number j)) (plain.number i) (plain (done (plain.truth (le_z i j))))
+      (o.1 ∙ ap (λ y. compare_left n y) (is_number rule lists j o.0 o.2)) (is_number rule lists i t.found.value t.found.stands) refl (not_plain _) in (
         u,
-        subst (λ m. Moved ns r lists lists free free m u) (sym e) (refl, λ h. refl, refl),
+        subst (λ m. Moved rule r lists lists free free m u) (sym e) (refl, λ h. refl, refl),
         record {
           opens = rest;
           value = plain.truth (le_z i j);
-          stacked = stacked_popped ns lists table (CompareLeft n (Number j)) (Number i) w t table' p;
+          stacked = stacked_popped rule lists table (CompareLeft n (Number j)) (Number i) w t table' p;
           stands = refl;
           whole = refl;
         },
       )
 
   -- adding
-  pub no_left_added : (n : ℕ) (y x : Value) (w : Work) → NotNumber x → OnTop ns lists table (SumLeft n y) x w → move w ≡ stuck
+  pub no_left_added : (n : ℕ) (y x : Value) (w : Work) → NotNumber x → OnTop rule lists table (SumLeft n y) x w → move w ≡ stuck
   no_left_added n y x w not t =
-      let o = here ns lists table (SumLeft n y) x w t in
-      moved ns lists table (SumLeft n y) x w t (sum_left n o.0) t.found.value stuck o.1 refl (sum_left_stuck ns lists n o.0 x t.found.value not t.found.stands) not_stuck
+      let o = here rule lists table (SumLeft n y) x w t in
+      moved rule lists table (SumLeft n y) x w t (sum_left n o.0) t.found.value stuck o.1 refl (sum_left_stuck rule lists n o.0 x t.found.value not t.found.stands) not_stuck
 
-  pub no_right_added : (n : ℕ) (y : Value) (i : ℤ) (w : Work) → NotNumber y → OnTop ns lists table (SumLeft n y) (Number i) w → move w ≡ stuck
+  pub no_right_added : (n : ℕ) (y : Value) (i : ℤ) (w : Work) → NotNumber y → OnTop rule lists table (SumLeft n y) (Number i) w → move w ≡ stuck
   no_right_added n y i w not t =
-      let o = here ns lists table (SumLeft n y) (Number i) w t in
-      moved ns lists table (SumLeft n y) (Number i) w t (sum_left n o.0) (plain.number i) stuck o.1 (is_number ns lists i t.found.value t.found.stands)
-      (sum_right_stuck ns lists n i y o.0 not o.2) not_stuck
+      let o = here rule lists table (SumLeft n y) (Number i) w t in
+      moved rule lists table (SumLeft n y) (Number i) w t (sum_left n o.0) (plain.number i) stuck o.1 (is_number rule lists i t.found.value t.found.stands)
+      (sum_right_stuck rule lists n i y o.0 not o.2) not_stuck
 
-  pub sum_moves : (n : ℕ) (i j : ℤ) (w : Work) (t : OnTop ns lists table (SumLeft n (Number j)) (Number i) w) (m : Move) →
+  pub sum_moves : (n : ℕ) (i j : ℤ) (w : Work) (t : OnTop rule lists table (SumLeft n (Number j)) (Number i) w) (m : Move) →
       added n (sum_of i j) ≡ m → ¬ (m ≡ rests) →
-      move w ≡ within (plugged (top ns lists table (SumLeft n (Number j)) (Number i) w t).rest) m
+      move w ≡ within (plugged (top rule lists table (SumLeft n (Number j)) (Number i) w t).rest) m
   sum_moves n i j w t m e not =
-      let o = here ns lists table (SumLeft n (Number j)) (Number i) w t in
-      moved ns lists table (SumLeft n (Number j)) (Number i) w t (sum_left n (plain.number j)) (plain.number i) m
-      (o.1 ∙ ap (λ y. sum_left n y) (is_number ns lists j o.0 o.2)) (is_number ns lists i t.found.value t.found.stands) e not
+      let o = here rule lists table (SumLeft n (Number j)) (Number i) w t in
+      moved rule lists table (SumLeft n (Number j)) (Number i) w t (sum_left n (plain.number j)) (plain.number i) m
+      (o.1 ∙ ap (λ y. sum_left n y) (is_number rule lists j o.0 o.2)) (is_number rule lists i t.found.value t.found.stands) e not
 
-  pub sum_found : (table' : Operations) (n : ℕ) (i j k : ℤ) (w : Work) → sum_of i j ≡ Sum.within k → OnTop ns lists table (SumLeft n (Number j)) (Number i) w → Popped table table' →
-      Reduces ns r lists lists free free table' (reduced.Found (Number k)) w
+  pub sum_found : (table' : Operations) (n : ℕ) (i j k : ℤ) (w : Work) → sum_of i j ≡ Sum.within k → OnTop rule lists table (SumLeft n (Number j)) (Number i) w → Popped table table' →
+      Reduces rule r lists lists free free table' (reduced.Found (Number k)) w
   sum_found table' n i j k w e t p =
-      let rest = (top ns lists table (SumLeft n (Number j)) (Number i) w t).rest in
+      let rest = (top rule lists table (SumLeft n (Number j)) (Number i) w t).rest in
       let u = plugged rest (done (plain.number k)) in
       let to_u : move w ≡ plain u = sum_moves n i j w t (plain (done (plain.number k))) (ap (λ x. added n x) e) (not_plain _) in (
         u,
-        subst (λ m. Moved ns r lists lists free free m u) (sym to_u) (refl, λ h. refl, refl),
+        subst (λ m. Moved rule r lists lists free free m u) (sym to_u) (refl, λ h. refl, refl),
         record {
           opens = rest;
           value = plain.number k;
-          stacked = stacked_popped ns lists table (SumLeft n (Number j)) (Number i) w t table' p;
+          stacked = stacked_popped rule lists table (SumLeft n (Number j)) (Number i) w t table' p;
           stands = refl;
           whole = refl;
         },
       )
 
   pub sum_leaves : (table' : Operations) (n : ℕ) (out : OutOfRange) (i j : ℤ) (w : Work) → sum_of i j ≡ Sum.out_of_range →
-      OnTop ns lists table (SumLeft n (Number j)) (Number i) w →
-      Reduces ns r lists lists free free table' (reduced.Range n out) w
+      OnTop rule lists table (SumLeft n (Number j)) (Number i) w →
+      Reduces rule r lists lists free free table' (reduced.Range n out) w
   sum_leaves table' n out i j w e t =
       (sum_moves n i j w t (beyond n) (ap (λ x. added n x) e) (not_beyond n), λ h. refl, refl)
 
   -- choosing
-  pub nothing_chosen : (n p q h : ℕ) (x : Value) (w : Work) → NotTruth x → OnTop ns lists table (Condition n p q h) x w → move w ≡ stuck
+  pub nothing_chosen : (n p q h : ℕ) (x : Value) (w : Work) → NotTruth x → OnTop rule lists table (Condition n p q h) x w → move w ≡ stuck
   nothing_chosen n p q h x w not t =
-      let o = here ns lists table (Condition n p q h) x w t in
-      moved ns lists table (Condition n p q h) x w t (condition n o.0 o.1 o.2) t.found.value stuck o.3 refl
-      (condition_stuck ns lists n o.0 o.1 o.2 x t.found.value not t.found.stands) not_stuck
+      let o = here rule lists table (Condition n p q h) x w t in
+      moved rule lists table (Condition n p q h) x w t (condition n o.0 o.1 o.2) t.found.value stuck o.3 refl
+      (condition_stuck rule lists n o.0 o.1 o.2 x t.found.value not t.found.stands) not_stuck
 
-  pub chosen_true : (table' : Operations) (n p q h : ℕ) (w : Work) → OnTop ns lists table (Condition n p q h) (Truth true) w → Popped table table' →
-      Reduces ns r lists lists free free table' (reduced.Body p h) w
+  pub chosen_true : (table' : Operations) (n p q h : ℕ) (w : Work) → OnTop rule lists table (Condition n p q h) (Truth true) w → Popped table table' →
+      Reduces rule r lists lists free free table' (reduced.Body p h) w
   chosen_true table' n p q h w t pop =
-      let o = here ns lists table (Condition n p q h) (Truth true) w t in
-      let rest = (top ns lists table (Condition n p q h) (Truth true) w t).rest in
+      let o = here rule lists table (Condition n p q h) (Truth true) w t in
+      let rest = (top rule lists table (Condition n p q h) (Truth true) w t).rest in
       let u = plugged rest (met o.0 o.2) in
-      let e : move w ≡ plain u = moved ns lists table (Condition n p q h) (Truth true) w t (condition n o.0 o.1 o.2) (plain.truth true) (plain (met o.0 o.2))
-      o.3 (is_truth ns lists true t.found.value t.found.stands) refl (not_plain _) in (
+      let e : move w ≡ plain u = moved rule lists table (Condition n p q h) (Truth true) w t (condition n o.0 o.1 o.2) (plain.truth true) (plain (met o.0 o.2))
+      o.3 (is_truth rule lists true t.found.value t.found.stands) refl (not_plain _) in (
         u,
-        weighed ns table'.ops table'.depth + nodes o.4.tree,
-        subst (λ m. Moved ns r lists lists free free m u) (sym e) (refl, λ k. refl, refl),
+        weighed rule table'.ops table'.depth + nodes o.4.tree,
+        subst (λ m. Moved rule r lists lists free free m u) (sym e) (refl, λ k. refl, refl),
         record {
           opens = rest;
           term = o.0;
           env = o.2;
-          stacked = stacked_popped ns lists table (Condition n p q h) (Truth true) w t table' pop;
+          stacked = stacked_popped rule lists table (Condition n p q h) (Truth true) w t table' pop;
           at = o.4;
           environment = o.6;
           whole = refl;
@@ -243,22 +243,22 @@ module _ (ns : List Node) (lists : Lists Value) (r : Room) (free : ℕ) (table :
         },
       )
 
-  pub chosen_false : (table' : Operations) (n p q h : ℕ) (w : Work) → OnTop ns lists table (Condition n p q h) (Truth false) w → Popped table table' →
-      Reduces ns r lists lists free free table' (reduced.Body q h) w
+  pub chosen_false : (table' : Operations) (n p q h : ℕ) (w : Work) → OnTop rule lists table (Condition n p q h) (Truth false) w → Popped table table' →
+      Reduces rule r lists lists free free table' (reduced.Body q h) w
   chosen_false table' n p q h w t pop =
-      let o = here ns lists table (Condition n p q h) (Truth false) w t in
-      let rest = (top ns lists table (Condition n p q h) (Truth false) w t).rest in
+      let o = here rule lists table (Condition n p q h) (Truth false) w t in
+      let rest = (top rule lists table (Condition n p q h) (Truth false) w t).rest in
       let u = plugged rest (met o.1 o.2) in
-      let e : move w ≡ plain u = moved ns lists table (Condition n p q h) (Truth false) w t (condition n o.0 o.1 o.2) (plain.truth false) (plain (met o.1 o.2))
-      o.3 (is_truth ns lists false t.found.value t.found.stands) refl (not_plain _) in (
+      let e : move w ≡ plain u = moved rule lists table (Condition n p q h) (Truth false) w t (condition n o.0 o.1 o.2) (plain.truth false) (plain (met o.1 o.2))
+      o.3 (is_truth rule lists false t.found.value t.found.stands) refl (not_plain _) in (
         u,
-        weighed ns table'.ops table'.depth + nodes o.5.tree,
-        subst (λ m. Moved ns r lists lists free free m u) (sym e) (refl, λ k. refl, refl),
+        weighed rule table'.ops table'.depth + nodes o.5.tree,
+        subst (λ m. Moved rule r lists lists free free m u) (sym e) (refl, λ k. refl, refl),
         record {
           opens = rest;
           term = o.1;
           env = o.2;
-          stacked = stacked_popped ns lists table (Condition n p q h) (Truth false) w t table' pop;
+          stacked = stacked_popped rule lists table (Condition n p q h) (Truth false) w t table' pop;
           at = o.5;
           environment = o.6;
           whole = refl;

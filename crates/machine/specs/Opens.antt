@@ -8,12 +8,12 @@ use Rattle.values.specs.declared.Value.{Value}
 use Rattle.values.specs.declared.Value.TheVariants.{Number}
 use Rattle.record.specs.Nodes.{node_at}
 use Rattle.calculus.specs.Term.{Term}
-use Rattle.reckoning.specs.Environments.{Env}
+use Rattle.reckoning.specs.Environments.{Env, size}
 use Rattle.reckoning.specs.Environments as plain
 use Rattle.reckoning.specs.Contexts.{Open, argument, applied, bound, sum_right, sum_left, compare_right, compare_left, condition}
 use Rattle.machine.specs.declared.operation.Operation.{Operation}
 use Rattle.machine.specs.declared.operation.Operation.TheVariants.{Argument, Applied, Bound, SumRight, SumLeft, CompareRight, CompareLeft, Condition}
-use Rattle.machine.specs.Places.{At}
+use Rattle.machine.specs.Places.{Rule, At}
 use Rattle.machine.specs.Handles.{StandsFor, IsListOf}
 
 -- how many nodes the left operand of a node has, by the places of its operands
@@ -21,6 +21,7 @@ abbrev pub span : Node → ℕ
 span (node.Number k) = 0
 span (node.Truth b) = 0
 span (node.Variable d) = 0
+span (node.Reading j) = 0
 span (node.Function b) = 0
 span (node.Application f a) = a - f
 span (node.LetIn e b) = 0
@@ -29,47 +30,47 @@ span (node.AtMost l r) = r - l
 span (node.IfElse c t e) = 0
 
 -- how many nodes of the left operand wait in an operation, until its right operand is found
-abbrev pub weight : List Node → Operation → ℕ
-weight ns (Argument n p h) = span (node_at ns n)
-weight ns (Applied n v) = 0
-weight ns (Bound n p h) = 0
-weight ns (SumRight n p h) = span (node_at ns n)
-weight ns (SumLeft n v) = 0
-weight ns (CompareRight n p h) = span (node_at ns n)
-weight ns (CompareLeft n v) = 0
-weight ns (Condition n p q h) = 0
+abbrev pub weight : Rule → Operation → ℕ
+weight rule (Argument n p h) = span (node_at rule.nodes n)
+weight rule (Applied n v) = 0
+weight rule (Bound n p h) = 0
+weight rule (SumRight n p h) = span (node_at rule.nodes n)
+weight rule (SumLeft n v) = 0
+weight rule (CompareRight n p h) = span (node_at rule.nodes n)
+weight rule (CompareLeft n v) = 0
+weight rule (Condition n p q h) = 0
 
 -- a left operand that waits at place p, of so many nodes, in the environment of handle h
-pub record Waits (ns : List Node) (lists : Lists Value) (p h size : ℕ) (t : Term) (env : Env) : Type 0 where
-  pub at : At ns p t
-  pub environment : IsListOf ns lists h env
-  pub sized : size ≡ nodes at.tree
+pub record Waits (rule : Rule) (lists : Lists Value) (p h wide : ℕ) (t : Term) (env : Env) : Type 0 where
+  pub at : At rule (size env) p t
+  pub environment : IsListOf rule lists h env
+  pub sized : wide ≡ nodes at.tree
 
-abbrev pub OpenFor : List Node → Lists Value → Operation → Open → Type 0
-OpenFor ns lists (Argument n p h) o = (t : Term) × (env : Env) × (o ≡ argument n t env) × Waits ns lists p h (span (node_at ns n)) t env
-OpenFor ns lists (Applied n x) o = (v : plain.Value) × (o ≡ applied n v) × StandsFor ns lists x v
-OpenFor ns lists (Bound n p h) o = (t : Term) × (env : Env) × (o ≡ bound n t env) × At ns p t × IsListOf ns lists h env
-OpenFor ns lists (SumRight n p h) o = (t : Term) × (env : Env) × (o ≡ sum_right n t env) × Waits ns lists p h (span (node_at ns n)) t env
-OpenFor ns lists (SumLeft n x) o = (v : plain.Value) × (o ≡ sum_left n v) × StandsFor ns lists x v
-OpenFor ns lists (CompareRight n p h) o = (t : Term) × (env : Env) × (o ≡ compare_right n t env) × Waits ns lists p h (span (node_at ns n)) t env
-OpenFor ns lists (CompareLeft n x) o = (v : plain.Value) × (o ≡ compare_left n v) × StandsFor ns lists x v
-OpenFor ns lists (Condition n p q h) o = (t e : Term) × (env : Env) × (o ≡ condition n t e env) × At ns p t × At ns q e × IsListOf ns lists h env
+abbrev pub OpenFor : Rule → Lists Value → Operation → Open → Type 0
+OpenFor rule lists (Argument n p h) o = (t : Term) × (env : Env) × (o ≡ argument n t env) × Waits rule lists p h (span (node_at rule.nodes n)) t env
+OpenFor rule lists (Applied n x) o = (v : plain.Value) × (o ≡ applied n v) × StandsFor rule lists x v
+OpenFor rule lists (Bound n p h) o = (t : Term) × (env : Env) × (o ≡ bound n t env) × At rule (suc (size env)) p t × IsListOf rule lists h env
+OpenFor rule lists (SumRight n p h) o = (t : Term) × (env : Env) × (o ≡ sum_right n t env) × Waits rule lists p h (span (node_at rule.nodes n)) t env
+OpenFor rule lists (SumLeft n x) o = (v : plain.Value) × (o ≡ sum_left n v) × StandsFor rule lists x v
+OpenFor rule lists (CompareRight n p h) o = (t : Term) × (env : Env) × (o ≡ compare_right n t env) × Waits rule lists p h (span (node_at rule.nodes n)) t env
+OpenFor rule lists (CompareLeft n x) o = (v : plain.Value) × (o ≡ compare_left n v) × StandsFor rule lists x v
+OpenFor rule lists (Condition n p q h) o = (t e : Term) × (env : Env) × (o ≡ condition n t e env) × At rule (size env) p t × At rule (size env) q e × IsListOf rule lists h env
 
 -- the operation at a place of the table
 abbrev pub op_at : List Operation → ℕ → Operation
 op_at ops i = slice_index_or ops i (SumLeft 0 (Number (pos 0)))
 
 -- the first d operations of the table are the open operations, the innermost last in the table and first in the list
-abbrev pub Stacked : List Node → Lists Value → List Operation → ℕ → List Open → Type 0
-Stacked ns lists ops zero [] = Unit {0}
-Stacked ns lists ops zero (o ∷ os) = ⊥
-Stacked ns lists ops (suc d) [] = ⊥
-Stacked ns lists ops (suc d) (o ∷ os) = OpenFor ns lists (op_at ops d) o × Stacked ns lists ops d os
+abbrev pub Stacked : Rule → Lists Value → List Operation → ℕ → List Open → Type 0
+Stacked rule lists ops zero [] = Unit {0}
+Stacked rule lists ops zero (o ∷ os) = ⊥
+Stacked rule lists ops (suc d) [] = ⊥
+Stacked rule lists ops (suc d) (o ∷ os) = OpenFor rule lists (op_at ops d) o × Stacked rule lists ops d os
 
 -- how many nodes of left operands wait in the first d operations
-abbrev pub weighed : List Node → List Operation → ℕ → ℕ
-weighed ns ops zero = 0
-weighed ns ops (suc d) = weight ns (op_at ops d) + weighed ns ops d
+abbrev pub weighed : Rule → List Operation → ℕ → ℕ
+weighed rule ops zero = 0
+weighed rule ops (suc d) = weight rule (op_at ops d) + weighed rule ops d
 
 -- an operation was written at place d, and those below stay
 pub record Topped (ops ops' : List Operation) (d : ℕ) (op : Operation) : Type 0 where

@@ -1,6 +1,5 @@
 -- One reduction: what the machine does for each move. Assumes nothing.
 use Rattle.std.specs.Prelude.{◌≡◌, ◌≢◌, ℕ, ◌+◌, ◌-◌, ◌<◌, List, length, None}
-use Rattle.syntax.specs.declared.node.Node.{Node}
 use Rattle.store.specs.Lists.{Lists, Same, Made}
 use Rattle.values.specs.declared.Value.{Value}
 use Rattle.reckoning.specs.Environments.{Env}
@@ -14,37 +13,38 @@ use Rattle.machine.specs.declared.reduce.Reduced.TheVariants.{Found, Body, Range
 use Rattle.machine.specs.Handles.{IsListOf}
 use Rattle.machine.specs.Opens.{op_at}
 use Rattle.machine.specs.Standing.{Meets, HasFound}
+use Rattle.machine.specs.Places.{Rule}
 
 abbrev pub room_of : ℕ → (ℕ → ℕ) → Room
 room_of whole cost = record { whole = whole; cost = cost }
 
 -- the value x is found, and the innermost operation is op
-pub record OnTop (ns : List Node) (lists : Lists Value) (table : Operations) (op : Operation) (x : Value) (w : Work) : Type 0 where
+pub record OnTop (rule : Rule) (lists : Lists Value) (table : Operations) (op : Operation) (x : Value) (w : Work) : Type 0 where
   pub some_open : 0 < table.depth
   pub is : op_at table.ops (table.depth - 1) ≡ op
-  pub found : HasFound ns lists table x w
+  pub found : HasFound rule lists table x w
 
 -- a fresh handle has this environment, which was paid for, and all else stays
-pub record MakesList (ns : List Node) (r : Room) (lists lists' : Lists Value) (free free' : ℕ) (env : Env) : Type 0 where
+pub record MakesList (rule : Rule) (r : Room) (lists lists' : Lists Value) (free free' : ℕ) (env : Env) : Type 0 where
   pub handle : ℕ
   pub fresh : lists handle ≡ None
-  pub known : IsListOf ns lists' handle env
+  pub known : IsListOf rule lists' handle env
   pub others : (h : ℕ) → (h ≢ handle) → lists' h ≡ lists h
   pub paid : free' + price r env ≡ free
 
 -- the move leads to the work w, and the store does what it says
-abbrev pub Moved : List Node → Room → Lists Value → Lists Value → ℕ → ℕ → Move → Work → Type 0
-Moved ns r lists lists' free free' rests w = ⊥
-Moved ns r lists lists' free free' (beyond n) w = ⊥
-Moved ns r lists lists' free free' stuck w = ⊥
-Moved ns r lists lists' free free' (plain u) w = (u ≡ w) × Same lists lists' × (free' ≡ free)
-Moved ns r lists lists' free free' (makes n env u) w = (u ≡ w) × MakesList ns r lists lists' free free' env
+abbrev pub Moved : Rule → Room → Lists Value → Lists Value → ℕ → ℕ → Move → Work → Type 0
+Moved rule r lists lists' free free' rests w = ⊥
+Moved rule r lists lists' free free' (beyond n) w = ⊥
+Moved rule r lists lists' free free' stuck w = ⊥
+Moved rule r lists lists' free free' (plain u) w = (u ≡ w) × Same lists lists' × (free' ≡ free)
+Moved rule r lists lists' free free' (makes n env u) w = (u ≡ w) × MakesList rule r lists lists' free free' env
 
-abbrev pub Reduces : List Node → Room → Lists Value → Lists Value → ℕ → ℕ → Operations → Reduced → Work → Type 0
-Reduces ns r lists lists' free free' table (Found x) w = (u : Work) × Moved ns r lists lists' free free' (move w) u × HasFound ns lists' table x u
-Reduces ns r lists lists' free free' table (Body p h) w = (u : Work) × (k : ℕ) × Moved ns r lists lists' free free' (move w) u × Meets ns lists' table p h u k
-Reduces ns r lists lists' free free' table (Range n out) w = (move w ≡ beyond n) × Same lists lists' × (free' ≡ free)
-Reduces ns r lists lists' free free' table (NoStore n) w =
+abbrev pub Reduces : Rule → Room → Lists Value → Lists Value → ℕ → ℕ → Operations → Reduced → Work → Type 0
+Reduces rule r lists lists' free free' table (Found x) w = (u : Work) × Moved rule r lists lists' free free' (move w) u × HasFound rule lists' table x u
+Reduces rule r lists lists' free free' table (Body p h) w = (u : Work) × (k : ℕ) × Moved rule r lists lists' free free' (move w) u × Meets rule lists' table p h u k
+Reduces rule r lists lists' free free' table (Range n out) w = (move w ≡ beyond n) × Same lists lists' × (free' ≡ free)
+Reduces rule r lists lists' free free' table (NoStore n) w =
     (env : Env) × (u : Work) × (move w ≡ makes n env u) × (free < price r env) × Same lists lists' × (free' ≡ free)
 
 abbrev pub Popped : Operations → Operations → Type 0

@@ -1,7 +1,6 @@
 -- Where a run stands. Assumes nothing.
 use Rattle.std.specs.Prelude.{◌≡◌, ◌≢◌, ℕ, suc, ◌≤◌, ℤ, List, length, None, Result, Ok, Err}
 use Rattle.std.proofs.Math.Option.{none}
-use Rattle.syntax.specs.declared.node.Node.{Node}
 use Rattle.syntax.specs.Tree.{Tree, nodes}
 use Rattle.record.specs.Nodes.{Holds}
 use Rattle.store.specs.Lists.{Lists}
@@ -27,6 +26,7 @@ use Rattle.machine.specs.declared.settle.Next.{Next}
 use Rattle.machine.specs.declared.steps.Gone.{Gone}
 use Rattle.machine.specs.declared.steps.Gone.TheVariants.{On, Ended}
 use Rattle.machine.specs.Standing.{Readied, Follows}
+use Rattle.machine.specs.Places.{Rule}
 
 abbrev pub answer_of : Value → Answer
 answer_of (value.Number k) = Answer.number k
@@ -54,27 +54,28 @@ sum_ahead n (value.Truth b) x = Waiting
 sum_ahead n (value.Function m h) x = Waiting
 
 -- The whole work w is told of as far as it was not refused room, and while it waits, its next reduction is known.
-pub record Rests (ns : List Node) (lists : Lists Value) (run : Machine) (w : Work) : Type 0 where
+pub record Rests (rule : Rule) (lists : Lists Value) (run : Machine) (w : Work) : Type 0 where
   pub in_state : state_of run.state ≡ shortage none (one_too_many w) (ahead w (move w))
-  pub ready : run.state ≡ Waiting → Readied ns lists run.table run.focus w
+  pub ready : run.state ≡ Waiting → Readied rule lists run.table run.focus w
 
 -- The run stands where s is: any s, however it came there.
-pub record StandsAt (ns : List Node) (lists : Lists Value) (room : Room) (left : ℕ) (root : Root) (run : Machine) (s : Reckoned) : Type 0 where
+pub record StandsAt (rule : Rule) (lists : Lists Value) (room : Room) (left : ℕ) (root : Root) (run : Machine) (s : Reckoned) : Type 0 where
   pub in_state : state_of run.state ≡ state s
   pub counted : run.count ≡ s.count
   pub left_free : left ≡ free room s.made
-  pub lists_made : Owned ns lists root s.made
-  pub ready : run.state ≡ Waiting → Readied ns lists run.table run.focus s.work
+  pub lists_made : Owned rule lists root s.made
+  pub ready : run.state ≡ Waiting → Readied rule lists run.table run.focus s.work
 
 -- nothing is ever stuck, from s on
 abbrev pub NeverStuck : Room → Reckoned → Type 0
 NeverStuck room s = (n : ℕ) → move (steps room n s).work ≢ stuck
 
 -- The table holds this tree, the list of the handle is these readings, no other handle has a list, and all room is free.
-pub record Begins (ns : List Node) (lists : Lists Value) (whole left : ℕ) (h : ℕ) (t : Tree) (readings : List ℤ) : Type 0 where
-  pub holds : Holds ns 0 t
-  pub inside : nodes t ≤ length ns
-  pub environment : IsListOf ns lists h (base readings)
+pub record Begins (rule : Rule) (lists : Lists Value) (whole left : ℕ) (h : ℕ) (t : Tree) (readings : List ℤ) : Type 0 where
+  pub holds : Holds rule.nodes 0 0 t
+  pub inside : nodes t ≤ length rule.nodes
+  pub as_many : rule.readings ≡ length readings
+  pub environment : IsListOf rule lists h (base readings)
   pub alone : (k : ℕ) → (k ≢ h) → lists k ≡ None
   pub unspent : left ≡ whole
 
@@ -83,15 +84,15 @@ abbrev pub rooted : ℕ → List ℤ → Root
 rooted h readings = record { handle = h; environment = base readings }
 
 -- The run goes on with what is next, where s is, and was not refused room.
-pub record OnTheWay (ns : List Node) (lists : Lists Value) (room : Room) (left : ℕ) (root : Root) (table : Operations) (next : Next) (s : Reckoned) : Type 0 where
+pub record OnTheWay (rule : Rule) (lists : Lists Value) (room : Room) (left : ℕ) (root : Root) (table : Operations) (next : Next) (s : Reckoned) : Type 0 where
   pub left_free : left ≡ free room s.made
-  pub lists_made : Owned ns lists root s.made
+  pub lists_made : Owned rule lists root s.made
   pub not_refused : s.refused ≡ none
-  pub follows : Follows ns lists table next s.work
+  pub follows : Follows rule lists table next s.work
 
 -- After a granted step: one reduction more, or each run that is in this state stands there, with as many reductions.
-abbrev pub Leads : List Node → Lists Value → Room → ℕ → Root → Operations → Gone → Reckoned → Type 0
-Leads ns lists room left root table (On next) s =
-    ((granted room s).count ≡ suc s.count) × OnTheWay ns lists room left root table next (granted room s)
-Leads ns lists room left root table (Ended st) s =
-    (run : Machine) → run.state ≡ st → run.count ≡ s.count → (st ≢ Waiting) × StandsAt ns lists room left root run (granted room s)
+abbrev pub Leads : Rule → Lists Value → Room → ℕ → Root → Operations → Gone → Reckoned → Type 0
+Leads rule lists room left root table (On next) s =
+    ((granted room s).count ≡ suc s.count) × OnTheWay rule lists room left root table next (granted room s)
+Leads rule lists room left root table (Ended st) s =
+    (run : Machine) → run.state ≡ st → run.count ≡ s.count → (st ≢ Waiting) × StandsAt rule lists room left root run (granted room s)

@@ -3,6 +3,7 @@ ghost use Rattle.std.specs.Prelude.{◌≡◌, ◌≢◌, ◌<◌, ◌-◌, ℕ,
 ghost use Rattle.values.specs.declared.Value.{Value as RunValue};
 ghost use Rattle.reckoning.specs.Work.{Work};
 ghost use Rattle.reckoning.specs.Moves.{move, stuck};
+ghost use Rattle.machine.specs.Places.{rule_of};
 ghost use Rattle.machine.specs.declared.operation.Operation.TheVariants.{Applied, Bound, SumLeft, CompareLeft, Condition};
 ghost use Rattle.machine.specs.Standing.{Readied};
 ghost use Rattle.machine.specs.Reducing.{room_of, OnTop, Reduces, Extends};
@@ -11,7 +12,7 @@ use crate::operation::Operation;
 use crate::operations::Operations;
 use crate::seek::node as node_of;
 use arithmetic::OutOfRange;
-use store::contract::Store;
+use readings::environments::Environments;
 use syntax::node::Node;
 use values::Value;
 
@@ -30,7 +31,7 @@ pub enum Reduced {
 
 /// Puts a value before an environment, and enters a body in it.
 #[inline(always)]
-fn enter_body<W: Store<Elem = Value>>(
+fn enter_body<W: Environments>(
     store: &mut W,
     table: &mut Operations,
     node: u16,
@@ -59,7 +60,7 @@ fn enter_body<W: Store<Elem = Value>>(
 
 /// A function is applied to its argument.
 #[inline(always)]
-fn apply<W: Store<Elem = Value>>(
+fn apply<W: Environments>(
     nodes: &[Node],
     store: &mut W,
     table: &mut Operations,
@@ -67,8 +68,8 @@ fn apply<W: Store<Elem = Value>>(
     argument: Value,
     value: Value,
 ) -> Reduced
-    requires top { (w : Work) × OnTop nodes.now (W.Store.lists store.old) table.old (Applied node argument) value w × (move w ≢ stuck) }
-    ensures reduces { (w : Work) → OnTop nodes.now (W.Store.lists store.old) table.old (Applied node argument) value w → Reduces nodes.now (room_of (W.Store.whole store.old) (W.Store.cost store.old)) (W.Store.lists store.old) (W.Store.lists store.new) (W.Store.room store.old) (W.Store.room store.new) table.new result w }
+    requires top { (w : Work) × OnTop (rule_of nodes.now (W.Store.base store.old)) (W.Store.lists store.old) table.old (Applied node argument) value w × (move w ≢ stuck) }
+    ensures reduces { (w : Work) → OnTop (rule_of nodes.now (W.Store.base store.old)) (W.Store.lists store.old) table.old (Applied node argument) value w → Reduces (rule_of nodes.now (W.Store.base store.old)) (room_of (W.Store.whole store.old) (W.Store.cost store.old)) (W.Store.lists store.old) (W.Store.lists store.new) (W.Store.room store.old) (W.Store.room store.new) table.new result w }
     ensures base { W.Store.base store.new ≡ W.Store.base store.old }
     ensures whole { W.Store.whole store.new ≡ W.Store.whole store.old }
     ensures cost { W.Store.cost store.new ≡ W.Store.cost store.old }
@@ -88,7 +89,7 @@ fn apply<W: Store<Elem = Value>>(
 
 /// A let binds its value.
 #[inline(always)]
-fn bind<W: Store<Elem = Value>>(
+fn bind<W: Environments>(
     nodes: &[Node],
     store: &mut W,
     table: &mut Operations,
@@ -97,8 +98,8 @@ fn bind<W: Store<Elem = Value>>(
     environment: u32,
     value: Value,
 ) -> Reduced
-    requires top { (w : Work) × OnTop nodes.now (W.Store.lists store.old) table.old (Bound node body environment) value w }
-    ensures reduces { (w : Work) → OnTop nodes.now (W.Store.lists store.old) table.old (Bound node body environment) value w → Reduces nodes.now (room_of (W.Store.whole store.old) (W.Store.cost store.old)) (W.Store.lists store.old) (W.Store.lists store.new) (W.Store.room store.old) (W.Store.room store.new) table.new result w }
+    requires top { (w : Work) × OnTop (rule_of nodes.now (W.Store.base store.old)) (W.Store.lists store.old) table.old (Bound node body environment) value w }
+    ensures reduces { (w : Work) → OnTop (rule_of nodes.now (W.Store.base store.old)) (W.Store.lists store.old) table.old (Bound node body environment) value w → Reduces (rule_of nodes.now (W.Store.base store.old)) (room_of (W.Store.whole store.old) (W.Store.cost store.old)) (W.Store.lists store.old) (W.Store.lists store.new) (W.Store.room store.old) (W.Store.room store.new) table.new result w }
     ensures base { W.Store.base store.new ≡ W.Store.base store.old }
     ensures whole { W.Store.whole store.new ≡ W.Store.whole store.old }
     ensures cost { W.Store.cost store.new ≡ W.Store.cost store.old }
@@ -108,7 +109,7 @@ fn bind<W: Store<Elem = Value>>(
 
 /// Two numbers are added.
 #[inline(always)]
-fn add<W: Store<Elem = Value>>(
+fn add<W: Environments>(
     nodes: &[Node],
     store: &W,
     table: &mut Operations,
@@ -116,8 +117,8 @@ fn add<W: Store<Elem = Value>>(
     right: Value,
     value: Value,
 ) -> Reduced
-    requires top { (w : Work) × OnTop nodes.now (W.Store.lists store.now) table.old (SumLeft node right) value w × (move w ≢ stuck) }
-    ensures { (w : Work) → OnTop nodes.now (W.Store.lists store.now) table.old (SumLeft node right) value w → Reduces nodes.now (room_of (W.Store.whole store.now) (W.Store.cost store.now)) (W.Store.lists store.now) (W.Store.lists store.now) (W.Store.room store.now) (W.Store.room store.now) table.new result w }
+    requires top { (w : Work) × OnTop (rule_of nodes.now (W.Store.base store.now)) (W.Store.lists store.now) table.old (SumLeft node right) value w × (move w ≢ stuck) }
+    ensures { (w : Work) → OnTop (rule_of nodes.now (W.Store.base store.now)) (W.Store.lists store.now) table.old (SumLeft node right) value w → Reduces (rule_of nodes.now (W.Store.base store.now)) (room_of (W.Store.whole store.now) (W.Store.cost store.now)) (W.Store.lists store.now) (W.Store.lists store.now) (W.Store.room store.now) (W.Store.room store.now) table.new result w }
 {
     let Value::Number(left) = value else {
         unreachable!()
@@ -136,7 +137,7 @@ fn add<W: Store<Elem = Value>>(
 
 /// Two numbers are compared.
 #[inline(always)]
-fn compare<W: Store<Elem = Value>>(
+fn compare<W: Environments>(
     nodes: &[Node],
     store: &W,
     table: &mut Operations,
@@ -144,8 +145,8 @@ fn compare<W: Store<Elem = Value>>(
     right: Value,
     value: Value,
 ) -> Reduced
-    requires top { (w : Work) × OnTop nodes.now (W.Store.lists store.now) table.old (CompareLeft node right) value w × (move w ≢ stuck) }
-    ensures { (w : Work) → OnTop nodes.now (W.Store.lists store.now) table.old (CompareLeft node right) value w → Reduces nodes.now (room_of (W.Store.whole store.now) (W.Store.cost store.now)) (W.Store.lists store.now) (W.Store.lists store.now) (W.Store.room store.now) (W.Store.room store.now) table.new result w }
+    requires top { (w : Work) × OnTop (rule_of nodes.now (W.Store.base store.now)) (W.Store.lists store.now) table.old (CompareLeft node right) value w × (move w ≢ stuck) }
+    ensures { (w : Work) → OnTop (rule_of nodes.now (W.Store.base store.now)) (W.Store.lists store.now) table.old (CompareLeft node right) value w → Reduces (rule_of nodes.now (W.Store.base store.now)) (room_of (W.Store.whole store.now) (W.Store.cost store.now)) (W.Store.lists store.now) (W.Store.lists store.now) (W.Store.room store.now) (W.Store.room store.now) table.new result w }
 {
     let Value::Number(left) = value else {
         unreachable!()
@@ -159,7 +160,7 @@ fn compare<W: Store<Elem = Value>>(
 
 /// A branch is chosen.
 #[inline(always)]
-fn choose<W: Store<Elem = Value>>(
+fn choose<W: Environments>(
     nodes: &[Node],
     store: &W,
     table: &mut Operations,
@@ -169,8 +170,8 @@ fn choose<W: Store<Elem = Value>>(
     environment: u32,
     value: Value,
 ) -> Reduced
-    requires top { (w : Work) × OnTop nodes.now (W.Store.lists store.now) table.old (Condition node then otherwise environment) value w × (move w ≢ stuck) }
-    ensures { (w : Work) → OnTop nodes.now (W.Store.lists store.now) table.old (Condition node then otherwise environment) value w → Reduces nodes.now (room_of (W.Store.whole store.now) (W.Store.cost store.now)) (W.Store.lists store.now) (W.Store.lists store.now) (W.Store.room store.now) (W.Store.room store.now) table.new result w }
+    requires top { (w : Work) × OnTop (rule_of nodes.now (W.Store.base store.now)) (W.Store.lists store.now) table.old (Condition node then otherwise environment) value w × (move w ≢ stuck) }
+    ensures { (w : Work) → OnTop (rule_of nodes.now (W.Store.base store.now)) (W.Store.lists store.now) table.old (Condition node then otherwise environment) value w → Reduces (rule_of nodes.now (W.Store.base store.now)) (room_of (W.Store.whole store.now) (W.Store.cost store.now)) (W.Store.lists store.now) (W.Store.lists store.now) (W.Store.room store.now) (W.Store.room store.now) table.new result w }
 {
     let Value::Truth(truth) = value else {
         unreachable!()
@@ -184,14 +185,14 @@ fn choose<W: Store<Elem = Value>>(
 
 /// Reduces the innermost operation with the value that was found for its operand.
 #[inline(always)]
-pub fn reduce<W: Store<Elem = Value>>(
+pub fn reduce<W: Environments>(
     nodes: &[Node],
     store: &mut W,
     table: &mut Operations,
     value: Value,
 ) -> Reduced
-    requires ready { (w : Work) × Readied nodes.now (W.Store.lists store.old) table.old value w × (move w ≢ stuck) }
-    ensures reduces { (w : Work) → Readied nodes.now (W.Store.lists store.old) table.old value w → Reduces nodes.now (room_of (W.Store.whole store.old) (W.Store.cost store.old)) (W.Store.lists store.old) (W.Store.lists store.new) (W.Store.room store.old) (W.Store.room store.new) table.new result w }
+    requires ready { (w : Work) × Readied (rule_of nodes.now (W.Store.base store.old)) (W.Store.lists store.old) table.old value w × (move w ≢ stuck) }
+    ensures reduces { (w : Work) → Readied (rule_of nodes.now (W.Store.base store.old)) (W.Store.lists store.old) table.old value w → Reduces (rule_of nodes.now (W.Store.base store.old)) (room_of (W.Store.whole store.old) (W.Store.cost store.old)) (W.Store.lists store.old) (W.Store.lists store.new) (W.Store.room store.old) (W.Store.room store.new) table.new result w }
     ensures base { W.Store.base store.new ≡ W.Store.base store.old }
     ensures whole { W.Store.whole store.new ≡ W.Store.whole store.old }
     ensures cost { W.Store.cost store.new ≡ W.Store.cost store.old }

@@ -4,9 +4,9 @@ ghost use Rattle.reckoning.specs.Work.{Work};
 ghost use Rattle.reckoning.specs.Moves.{move, stuck};
 ghost use Rattle.record.specs.Nodes.{node_at};
 ghost use Rattle.calculus.specs.Term.{Term};
-ghost use Rattle.reckoning.specs.Environments.{Env};
+ghost use Rattle.reckoning.specs.Environments.{Env, size};
 ghost use Rattle.syntax.specs.declared.node.Node.TheVariants.{Application, LetIn, Sum, AtMost, IfElse};
-ghost use Rattle.machine.specs.Places.{At};
+ghost use Rattle.machine.specs.Places.{At, rule_of};
 ghost use Rattle.machine.specs.Handles.{IsListOf};
 ghost use Rattle.machine.specs.Leaves.{AtOnce, GoesOn};
 ghost use Rattle.machine.specs.Standing.{Meets, Enters, Finds, Deeper};
@@ -14,7 +14,7 @@ ghost use Rattle.values.specs.declared.Value.TheVariants.{Number};
 
 use crate::operation::Operation;
 use crate::operations::{MOST_OPEN, Operations};
-use store::contract::Store;
+use readings::environments::Environments;
 use syntax::node::Node;
 use values::Value;
 
@@ -53,23 +53,22 @@ pub fn number_value(number: i32) -> Value
     Value::Number(number)
 }
 
-/// The value of a node that is worked out at once: of a number, a truth, a variable or a function.
+/// The value of a node that is worked out at once: of a number, a truth, a binder, a reading or a function.
 #[inline(always)]
-fn leaf<W: Store<Elem = Value>>(
-    nodes: &[Node],
-    store: &W,
-    place: u16,
-    environment: u32,
-) -> Option<Value>
-    requires { GoesOn nodes.now (W.Store.lists store.now) place environment }
-    ensures { (t : Term) (env : Env) → At nodes.now place t → IsListOf nodes.now (W.Store.lists store.now) environment env → AtOnce nodes.now (W.Store.lists store.now) t env result }
+fn leaf<W: Environments>(nodes: &[Node], store: &W, place: u16, environment: u32) -> Option<Value>
+    requires { GoesOn (rule_of nodes.now (W.Store.base store.now)) (W.Store.lists store.now) place environment }
+    ensures { (t : Term) (env : Env) → At (rule_of nodes.now (W.Store.base store.now)) (size env) place t → IsListOf (rule_of nodes.now (W.Store.base store.now)) (W.Store.lists store.now) environment env → AtOnce (rule_of nodes.now (W.Store.base store.now)) (W.Store.lists store.now) t env result }
 {
     match node(nodes, place) {
         Node::Number(number) => Some(number_value(number)),
         Node::Truth(truth) => Some(Value::Truth(truth)),
-        Node::Variable(distance) => match store.look(environment, distance as u32) {
+        Node::Variable(distance) => match store.binder(environment, distance as u32) {
             Ok(value) => Some(value),
             Err(_) => unreachable!(),
+        },
+        Node::Reading(number) => match store.reading(number as u32) {
+            Some(value) => Some(value),
+            None => unreachable!(),
         },
         Node::Function(_) => Some(Value::Function {
             node: place,
@@ -81,7 +80,7 @@ fn leaf<W: Store<Elem = Value>>(
 
 /// Enters an application: the argument first.
 #[inline(always)]
-fn enter_application<W: Store<Elem = Value>>(
+fn enter_application<W: Environments>(
     nodes: &[Node],
     store: &W,
     table: &mut Operations,
@@ -91,9 +90,9 @@ fn enter_application<W: Store<Elem = Value>>(
     environment: u32,
 ) -> Entered
     requires node { Application function argument ≡ node_at nodes.now place }
-    requires meets { (w : Work) × (k : ℕ) × Meets nodes.now (W.Store.lists store.now) table.old place environment w k × (move w ≢ stuck) }
+    requires meets { (w : Work) × (k : ℕ) × Meets (rule_of nodes.now (W.Store.base store.now)) (W.Store.lists store.now) table.old place environment w k × (move w ≢ stuck) }
     ensures deeper { Deeper place result }
-    ensures enters { (w : Work) (k : ℕ) → Meets nodes.now (W.Store.lists store.now) table.old place environment w k → Enters nodes.now (W.Store.lists store.now) table.new environment result w k }
+    ensures enters { (w : Work) (k : ℕ) → Meets (rule_of nodes.now (W.Store.base store.now)) (W.Store.lists store.now) table.old place environment w k → Enters (rule_of nodes.now (W.Store.base store.now)) (W.Store.lists store.now) table.new environment result w k }
 {
     if table.depth == MOST_OPEN {
         return Entered::NoStack(place);
@@ -119,7 +118,7 @@ fn enter_application<W: Store<Elem = Value>>(
 
 /// Enters a sum: the right operand first.
 #[inline(always)]
-fn enter_sum<W: Store<Elem = Value>>(
+fn enter_sum<W: Environments>(
     nodes: &[Node],
     store: &W,
     table: &mut Operations,
@@ -129,9 +128,9 @@ fn enter_sum<W: Store<Elem = Value>>(
     environment: u32,
 ) -> Entered
     requires node { Sum left right ≡ node_at nodes.now place }
-    requires meets { (w : Work) × (k : ℕ) × Meets nodes.now (W.Store.lists store.now) table.old place environment w k × (move w ≢ stuck) }
+    requires meets { (w : Work) × (k : ℕ) × Meets (rule_of nodes.now (W.Store.base store.now)) (W.Store.lists store.now) table.old place environment w k × (move w ≢ stuck) }
     ensures deeper { Deeper place result }
-    ensures enters { (w : Work) (k : ℕ) → Meets nodes.now (W.Store.lists store.now) table.old place environment w k → Enters nodes.now (W.Store.lists store.now) table.new environment result w k }
+    ensures enters { (w : Work) (k : ℕ) → Meets (rule_of nodes.now (W.Store.base store.now)) (W.Store.lists store.now) table.old place environment w k → Enters (rule_of nodes.now (W.Store.base store.now)) (W.Store.lists store.now) table.new environment result w k }
 {
     if table.depth == MOST_OPEN {
         return Entered::NoStack(place);
@@ -157,7 +156,7 @@ fn enter_sum<W: Store<Elem = Value>>(
 
 /// Enters a comparison: the right operand first.
 #[inline(always)]
-fn enter_comparison<W: Store<Elem = Value>>(
+fn enter_comparison<W: Environments>(
     nodes: &[Node],
     store: &W,
     table: &mut Operations,
@@ -167,9 +166,9 @@ fn enter_comparison<W: Store<Elem = Value>>(
     environment: u32,
 ) -> Entered
     requires node { AtMost left right ≡ node_at nodes.now place }
-    requires meets { (w : Work) × (k : ℕ) × Meets nodes.now (W.Store.lists store.now) table.old place environment w k × (move w ≢ stuck) }
+    requires meets { (w : Work) × (k : ℕ) × Meets (rule_of nodes.now (W.Store.base store.now)) (W.Store.lists store.now) table.old place environment w k × (move w ≢ stuck) }
     ensures deeper { Deeper place result }
-    ensures enters { (w : Work) (k : ℕ) → Meets nodes.now (W.Store.lists store.now) table.old place environment w k → Enters nodes.now (W.Store.lists store.now) table.new environment result w k }
+    ensures enters { (w : Work) (k : ℕ) → Meets (rule_of nodes.now (W.Store.base store.now)) (W.Store.lists store.now) table.old place environment w k → Enters (rule_of nodes.now (W.Store.base store.now)) (W.Store.lists store.now) table.new environment result w k }
 {
     if table.depth == MOST_OPEN {
         return Entered::NoStack(place);
@@ -195,7 +194,7 @@ fn enter_comparison<W: Store<Elem = Value>>(
 
 /// Enters a let: what it binds first.
 #[inline(always)]
-fn enter_let<W: Store<Elem = Value>>(
+fn enter_let<W: Environments>(
     nodes: &[Node],
     store: &W,
     table: &mut Operations,
@@ -205,9 +204,9 @@ fn enter_let<W: Store<Elem = Value>>(
     environment: u32,
 ) -> Entered
     requires node { LetIn bound body ≡ node_at nodes.now place }
-    requires meets { (w : Work) × (k : ℕ) × Meets nodes.now (W.Store.lists store.now) table.old place environment w k × (move w ≢ stuck) }
+    requires meets { (w : Work) × (k : ℕ) × Meets (rule_of nodes.now (W.Store.base store.now)) (W.Store.lists store.now) table.old place environment w k × (move w ≢ stuck) }
     ensures deeper { Deeper place result }
-    ensures enters { (w : Work) (k : ℕ) → Meets nodes.now (W.Store.lists store.now) table.old place environment w k → Enters nodes.now (W.Store.lists store.now) table.new environment result w k }
+    ensures enters { (w : Work) (k : ℕ) → Meets (rule_of nodes.now (W.Store.base store.now)) (W.Store.lists store.now) table.old place environment w k → Enters (rule_of nodes.now (W.Store.base store.now)) (W.Store.lists store.now) table.new environment result w k }
 {
     if table.depth == MOST_OPEN {
         return Entered::NoStack(place);
@@ -222,7 +221,7 @@ fn enter_let<W: Store<Elem = Value>>(
 
 /// Enters an if: the condition first.
 #[inline(always)]
-fn enter_if<W: Store<Elem = Value>>(
+fn enter_if<W: Environments>(
     nodes: &[Node],
     store: &W,
     table: &mut Operations,
@@ -233,9 +232,9 @@ fn enter_if<W: Store<Elem = Value>>(
     environment: u32,
 ) -> Entered
     requires node { IfElse condition then otherwise ≡ node_at nodes.now place }
-    requires meets { (w : Work) × (k : ℕ) × Meets nodes.now (W.Store.lists store.now) table.old place environment w k × (move w ≢ stuck) }
+    requires meets { (w : Work) × (k : ℕ) × Meets (rule_of nodes.now (W.Store.base store.now)) (W.Store.lists store.now) table.old place environment w k × (move w ≢ stuck) }
     ensures deeper { Deeper place result }
-    ensures enters { (w : Work) (k : ℕ) → Meets nodes.now (W.Store.lists store.now) table.old place environment w k → Enters nodes.now (W.Store.lists store.now) table.new environment result w k }
+    ensures enters { (w : Work) (k : ℕ) → Meets (rule_of nodes.now (W.Store.base store.now)) (W.Store.lists store.now) table.old place environment w k → Enters (rule_of nodes.now (W.Store.base store.now)) (W.Store.lists store.now) table.new environment result w k }
 {
     if table.depth == MOST_OPEN {
         return Entered::NoStack(place);
@@ -251,23 +250,27 @@ fn enter_if<W: Store<Elem = Value>>(
 
 /// Enters a node: it has a value, or its operation is opened. A right operand that is a leaf is worked out at once.
 #[inline(always)]
-pub fn enter<W: Store<Elem = Value>>(
+pub fn enter<W: Environments>(
     nodes: &[Node],
     store: &W,
     table: &mut Operations,
     place: u16,
     environment: u32,
 ) -> Entered
-    requires { (w : Work) × (k : ℕ) × Meets nodes.now (W.Store.lists store.now) table.old place environment w k × (move w ≢ stuck) }
+    requires { (w : Work) × (k : ℕ) × Meets (rule_of nodes.now (W.Store.base store.now)) (W.Store.lists store.now) table.old place environment w k × (move w ≢ stuck) }
     ensures deeper { Deeper place result }
-    ensures enters { (w : Work) (k : ℕ) → Meets nodes.now (W.Store.lists store.now) table.old place environment w k → Enters nodes.now (W.Store.lists store.now) table.new environment result w k }
+    ensures enters { (w : Work) (k : ℕ) → Meets (rule_of nodes.now (W.Store.base store.now)) (W.Store.lists store.now) table.old place environment w k → Enters (rule_of nodes.now (W.Store.base store.now)) (W.Store.lists store.now) table.new environment result w k }
 {
     match node(nodes, place) {
         Node::Number(number) => Entered::Value(number_value(number)),
         Node::Truth(truth) => Entered::Value(Value::Truth(truth)),
-        Node::Variable(distance) => match store.look(environment, distance as u32) {
+        Node::Variable(distance) => match store.binder(environment, distance as u32) {
             Ok(value) => Entered::Value(value),
             Err(_) => unreachable!(),
+        },
+        Node::Reading(reading) => match store.reading(reading as u32) {
+            Some(value) => Entered::Value(value),
+            None => unreachable!(),
         },
         Node::Function(_) => Entered::Value(Value::Function {
             node: place,
@@ -296,15 +299,15 @@ pub fn enter<W: Store<Elem = Value>>(
 
 /// Seeks a value downwards, from a node on.
 #[inline(always)]
-pub fn seek<W: Store<Elem = Value>>(
+pub fn seek<W: Environments>(
     nodes: &[Node],
     store: &W,
     table: &mut Operations,
     place: u16,
     environment: u32,
 ) -> Sought
-    requires { (w : Work) × (k : ℕ) × Meets nodes.now (W.Store.lists store.now) table.old place environment w k × (move w ≢ stuck) }
-    ensures { (w : Work) (k : ℕ) → Meets nodes.now (W.Store.lists store.now) table.old place environment w k → Finds nodes.now (W.Store.lists store.now) table.new result w k }
+    requires { (w : Work) × (k : ℕ) × Meets (rule_of nodes.now (W.Store.base store.now)) (W.Store.lists store.now) table.old place environment w k × (move w ≢ stuck) }
+    ensures { (w : Work) (k : ℕ) → Meets (rule_of nodes.now (W.Store.base store.now)) (W.Store.lists store.now) table.old place environment w k → Finds (rule_of nodes.now (W.Store.base store.now)) (W.Store.lists store.now) table.new result w k }
 {
     let mut at = place;
     loop {

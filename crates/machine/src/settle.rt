@@ -1,17 +1,17 @@
 //! Coming back with a value that was found.
 ghost use Rattle.std.specs.Prelude.{◌≡◌, ◌≢◌, ◌<◌, ℕ, length};
-ghost use Rattle.syntax.specs.declared.node.Node.{Node as Nodes};
 ghost use Rattle.std.specs.Prelude.{List};
 ghost use Rattle.store.specs.Lists.{Lists};
 ghost use Rattle.values.specs.declared.Value.{Value as RunValue};
 ghost use Rattle.reckoning.specs.Work.{Work};
 ghost use Rattle.reckoning.specs.Moves.{move, stuck};
+ghost use Rattle.machine.specs.Places.{Rule, rule_of};
 ghost use Rattle.machine.specs.Standing.{HasFound, Follows, Reaches, GivesWay, Settles};
 
 use crate::operation::Operation;
 use crate::operations::Operations;
 use crate::seek::{Sought, seek};
-use store::contract::Store;
+use readings::environments::Environments;
 use syntax::node::Node;
 use values::Value;
 
@@ -46,7 +46,7 @@ pub enum Settled {
 /// Hands a value that was found to the innermost operation: a right operand gives way to the left one.
 #[inline(always)]
 pub fn give_way(table: &mut Operations, value: Value) -> Way
-    ensures { (ns : List Nodes) (lists : Lists RunValue) (w : Work) → HasFound ns lists table.old value w → GivesWay ns lists table.old table.new value result w }
+    ensures { (rule : Rule) (lists : Lists RunValue) (w : Work) → HasFound rule lists table.old value w → GivesWay rule lists table.old table.new value result w }
 {
     if table.depth == 0 {
         return Way::Over;
@@ -96,14 +96,14 @@ pub fn give_way(table: &mut Operations, value: Value) -> Way
 
 /// Comes back with a value through the open operations, to one that is ready to be reduced.
 #[inline(always)]
-pub fn settle<W: Store<Elem = Value>>(
+pub fn settle<W: Environments>(
     nodes: &[Node],
     store: &W,
     table: &mut Operations,
     value: Value,
 ) -> Settled
-    requires { (w : Work) × HasFound nodes.now (W.Store.lists store.now) table.old value w × (move w ≢ stuck) }
-    ensures { (w : Work) → HasFound nodes.now (W.Store.lists store.now) table.old value w → Settles nodes.now (W.Store.lists store.now) table.new result w }
+    requires { (w : Work) × HasFound (rule_of nodes.now (W.Store.base store.now)) (W.Store.lists store.now) table.old value w × (move w ≢ stuck) }
+    ensures { (w : Work) → HasFound (rule_of nodes.now (W.Store.base store.now)) (W.Store.lists store.now) table.old value w → Settles (rule_of nodes.now (W.Store.base store.now)) (W.Store.lists store.now) table.new result w }
 {
     let mut found = value;
     loop {
@@ -126,14 +126,14 @@ pub fn settle<W: Store<Elem = Value>>(
 
 /// The value that a run goes on with, sought from the node that is to be met.
 #[inline(always)]
-fn value_of<W: Store<Elem = Value>>(
+fn value_of<W: Environments>(
     nodes: &[Node],
     store: &W,
     table: &mut Operations,
     next: Next,
 ) -> Sought
-    requires { (w : Work) × Follows nodes.now (W.Store.lists store.now) table.old next w × (move w ≢ stuck) }
-    ensures { (w : Work) → Follows nodes.now (W.Store.lists store.now) table.old next w → Reaches nodes.now (W.Store.lists store.now) table.new result w }
+    requires { (w : Work) × Follows (rule_of nodes.now (W.Store.base store.now)) (W.Store.lists store.now) table.old next w × (move w ≢ stuck) }
+    ensures { (w : Work) → Follows (rule_of nodes.now (W.Store.base store.now)) (W.Store.lists store.now) table.old next w → Reaches (rule_of nodes.now (W.Store.base store.now)) (W.Store.lists store.now) table.new result w }
 {
     match next {
         Next::Value(value) => Sought::Value(value),
@@ -143,14 +143,14 @@ fn value_of<W: Store<Elem = Value>>(
 
 /// Goes on to an operation that is ready to be reduced.
 #[inline(always)]
-pub fn ready<W: Store<Elem = Value>>(
+pub fn ready<W: Environments>(
     nodes: &[Node],
     store: &W,
     table: &mut Operations,
     next: Next,
 ) -> Settled
-    requires { (w : Work) × Follows nodes.now (W.Store.lists store.now) table.old next w × (move w ≢ stuck) }
-    ensures { (w : Work) → Follows nodes.now (W.Store.lists store.now) table.old next w → Settles nodes.now (W.Store.lists store.now) table.new result w }
+    requires { (w : Work) × Follows (rule_of nodes.now (W.Store.base store.now)) (W.Store.lists store.now) table.old next w × (move w ≢ stuck) }
+    ensures { (w : Work) → Follows (rule_of nodes.now (W.Store.base store.now)) (W.Store.lists store.now) table.old next w → Settles (rule_of nodes.now (W.Store.base store.now)) (W.Store.lists store.now) table.new result w }
 {
     match value_of(nodes, store, table, next) {
         Sought::Value(value) => settle(nodes, store, table, value),

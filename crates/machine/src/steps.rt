@@ -1,6 +1,5 @@
 //! A run, step for step.
 ghost use Rattle.std.specs.Prelude.{◌≡◌, ◌≢◌, ◌<◌, ◌≤◌, ◌+◌, ℕ, List};
-ghost use Rattle.syntax.specs.declared.node.Node.{Node as Nodes};
 ghost use Rattle.store.specs.Lists.{Lists};
 ghost use Rattle.values.specs.declared.Value.{Value as Value_};
 ghost use Rattle.std.specs.Prelude.{ℤ};
@@ -8,6 +7,7 @@ ghost use Rattle.syntax.specs.Tree.{Tree};
 ghost use Rattle.reckoning.specs.Work.{Work};
 ghost use Rattle.reckoning.specs.Moves.{move, stuck};
 ghost use Rattle.reckoning.specs.Reckoning.{Reckoned, begun, granted, steps, ahead as next_state};
+ghost use Rattle.machine.specs.Places.{Rule, rule_of};
 ghost use Rattle.machine.specs.declared.steps.State.TheVariants.{Waiting};
 ghost use Rattle.machine.specs.Handles.{Root};
 ghost use Rattle.machine.specs.Standing.{Readied, Follows};
@@ -19,7 +19,7 @@ use crate::operations::Operations;
 use crate::reduce::{Reduced, reduce};
 use crate::settle::{Next, Settled, ready};
 use arithmetic::OutOfRange;
-use store::contract::Store;
+use readings::environments::Environments;
 use syntax::node::Node;
 use values::Value;
 
@@ -72,7 +72,7 @@ fn sum_ahead(node: u16, right: Value, left: Value) -> State
 /// What is told of the reduction that is next.
 fn ahead(table: &Operations, value: Value) -> State
     requires { 0 < table.now.depth }
-    ensures { (ns : List Nodes) (lists : Lists Value_) (w : Work) → Readied ns lists table.now value w → state_of result ≡ next_state w (move w) }
+    ensures { (rule : Rule) (lists : Lists Value_) (w : Work) → Readied rule lists table.now value w → state_of result ≡ next_state w (move w) }
 {
     match table.top() {
         Operation::SumLeft { node, right } => sum_ahead(node, right, value),
@@ -82,14 +82,9 @@ fn ahead(table: &Operations, value: Value) -> State
 
 /// One granted step: on to an operation that is ready, and its reduction.
 #[inline(always)]
-fn step<W: Store<Elem = Value>>(
-    nodes: &[Node],
-    store: &mut W,
-    table: &mut Operations,
-    next: Next,
-) -> Gone
-    requires goes_on { (root : Root) × (s : Reckoned) × OnTheWay nodes.now (W.Store.lists store.old) (room_of (W.Store.whole store.old) (W.Store.cost store.old)) (W.Store.room store.old) root table.old next s × NeverStuck (room_of (W.Store.whole store.old) (W.Store.cost store.old)) s }
-    ensures goes { (root : Root) (s : Reckoned) → OnTheWay nodes.now (W.Store.lists store.old) (room_of (W.Store.whole store.old) (W.Store.cost store.old)) (W.Store.room store.old) root table.old next s → Leads nodes.now (W.Store.lists store.new) (room_of (W.Store.whole store.old) (W.Store.cost store.old)) (W.Store.room store.new) root table.new result s }
+fn step<W: Environments>(nodes: &[Node], store: &mut W, table: &mut Operations, next: Next) -> Gone
+    requires goes_on { (root : Root) × (s : Reckoned) × OnTheWay (rule_of nodes.now (W.Store.base store.old)) (W.Store.lists store.old) (room_of (W.Store.whole store.old) (W.Store.cost store.old)) (W.Store.room store.old) root table.old next s × NeverStuck (room_of (W.Store.whole store.old) (W.Store.cost store.old)) s }
+    ensures goes { (root : Root) (s : Reckoned) → OnTheWay (rule_of nodes.now (W.Store.base store.old)) (W.Store.lists store.old) (room_of (W.Store.whole store.old) (W.Store.cost store.old)) (W.Store.room store.old) root table.old next s → Leads (rule_of nodes.now (W.Store.base store.old)) (W.Store.lists store.new) (room_of (W.Store.whole store.old) (W.Store.cost store.old)) (W.Store.room store.new) root table.new result s }
     ensures base { W.Store.base store.new ≡ W.Store.base store.old }
     ensures whole { W.Store.whole store.new ≡ W.Store.whole store.old }
     ensures cost { W.Store.cost store.new ≡ W.Store.cost store.old }
@@ -119,9 +114,9 @@ impl Machine {
 
     /// Goes on to where the run waits or ends, with no step left.
     #[inline(never)]
-    fn rest<W: Store<Elem = Value>>(&mut self, nodes: &[Node], store: &W, next: Next)
-        requires { (w : Work) × Follows nodes.now (W.Store.lists store.now) self.old.table next w × (move w ≢ stuck) }
-        ensures rests { (w : Work) → Follows nodes.now (W.Store.lists store.now) self.old.table next w → Rests nodes.now (W.Store.lists store.now) self.new w }
+    fn rest<W: Environments>(&mut self, nodes: &[Node], store: &W, next: Next)
+        requires { (w : Work) × Follows (rule_of nodes.now (W.Store.base store.now)) (W.Store.lists store.now) self.old.table next w × (move w ≢ stuck) }
+        ensures rests { (w : Work) → Follows (rule_of nodes.now (W.Store.base store.now)) (W.Store.lists store.now) self.old.table next w → Rests (rule_of nodes.now (W.Store.base store.now)) (W.Store.lists store.now) self.new w }
         ensures count { self.new.count ≡ self.old.count }
     {
         match ready(nodes, store, &mut self.table, next) {
@@ -135,9 +130,9 @@ impl Machine {
     }
 
     /// Begins: at the root of the tree, in the environment of a handle.
-    pub fn begin<W: Store<Elem = Value>>(&mut self, nodes: &[Node], store: &W, environment: u32)
-        requires { (t : Tree) × (readings : List ℤ) × Begins nodes.now (W.Store.lists store.now) (W.Store.whole store.now) (W.Store.room store.now) environment t readings × (move (begun readings t).work ≢ stuck) }
-        ensures { (t : Tree) (readings : List ℤ) → Begins nodes.now (W.Store.lists store.now) (W.Store.whole store.now) (W.Store.room store.now) environment t readings → StandsAt nodes.now (W.Store.lists store.now) (room_of (W.Store.whole store.now) (W.Store.cost store.now)) (W.Store.room store.now) (rooted environment readings) self.new (begun readings t) }
+    pub fn begin<W: Environments>(&mut self, nodes: &[Node], store: &W, environment: u32)
+        requires { (t : Tree) × (readings : List ℤ) × Begins (rule_of nodes.now (W.Store.base store.now)) (W.Store.lists store.now) (W.Store.whole store.now) (W.Store.room store.now) environment t readings × (move (begun readings t).work ≢ stuck) }
+        ensures { (t : Tree) (readings : List ℤ) → Begins (rule_of nodes.now (W.Store.base store.now)) (W.Store.lists store.now) (W.Store.whole store.now) (W.Store.room store.now) environment t readings → StandsAt (rule_of nodes.now (W.Store.base store.now)) (W.Store.lists store.now) (room_of (W.Store.whole store.now) (W.Store.cost store.now)) (W.Store.room store.now) (rooted environment readings) self.new (begun readings t) }
     {
         self.table.clear();
         self.count = 0;
@@ -152,10 +147,10 @@ impl Machine {
     }
 
     /// So many granted steps: exactly as many reductions, or as many as there are before the run ends.
-    pub fn grant<W: Store<Elem = Value>>(&mut self, nodes: &[Node], store: &mut W, granted: u32)
+    pub fn grant<W: Environments>(&mut self, nodes: &[Node], store: &mut W, granted: u32)
         requires low { self.old.count + granted < 4294967296 }
-        requires stands { (root : Root) × (s : Reckoned) × StandsAt nodes.now (W.Store.lists store.old) (room_of (W.Store.whole store.old) (W.Store.cost store.old)) (W.Store.room store.old) root self.old s × NeverStuck (room_of (W.Store.whole store.old) (W.Store.cost store.old)) s }
-        ensures goes { (root : Root) (s : Reckoned) → StandsAt nodes.now (W.Store.lists store.old) (room_of (W.Store.whole store.old) (W.Store.cost store.old)) (W.Store.room store.old) root self.old s → StandsAt nodes.now (W.Store.lists store.new) (room_of (W.Store.whole store.old) (W.Store.cost store.old)) (W.Store.room store.new) root self.new (steps (room_of (W.Store.whole store.old) (W.Store.cost store.old)) granted s) }
+        requires stands { (root : Root) × (s : Reckoned) × StandsAt (rule_of nodes.now (W.Store.base store.old)) (W.Store.lists store.old) (room_of (W.Store.whole store.old) (W.Store.cost store.old)) (W.Store.room store.old) root self.old s × NeverStuck (room_of (W.Store.whole store.old) (W.Store.cost store.old)) s }
+        ensures goes { (root : Root) (s : Reckoned) → StandsAt (rule_of nodes.now (W.Store.base store.old)) (W.Store.lists store.old) (room_of (W.Store.whole store.old) (W.Store.cost store.old)) (W.Store.room store.old) root self.old s → StandsAt (rule_of nodes.now (W.Store.base store.old)) (W.Store.lists store.new) (room_of (W.Store.whole store.old) (W.Store.cost store.old)) (W.Store.room store.new) root self.new (steps (room_of (W.Store.whole store.old) (W.Store.cost store.old)) granted s) }
         ensures base { W.Store.base store.new ≡ W.Store.base store.old }
         ensures whole { W.Store.whole store.new ≡ W.Store.whole store.old }
         ensures cost { W.Store.cost store.new ≡ W.Store.cost store.old }

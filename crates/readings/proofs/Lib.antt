@@ -1,1 +1,1 @@
-mod Layered
+pub mod Layered

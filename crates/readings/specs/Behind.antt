@@ -1,5 +1,5 @@
 -- The readings behind every list.
-use Rattle.std.specs.Prelude.{◌≡◌, ℕ, ◌+◌, ◌-◌, ◌<◌, ◌≤◌, List, ◌++◌, map, length, take, ℤ, pos, Some, None, Ok, Err, Option, Result, slice_index_or}
+use Rattle.std.specs.Prelude.{◌≡◌, ℕ, ◌+◌, ◌-◌, ◌<◌, ◌≤◌, List, ◌++◌, map, length, take, ℤ, Some, None, Ok, Err, Option, Result, slice_index_or}
 use Rattle.store.specs.Lists.{Lists}
 use Rattle.store.specs.declared.fault.StoreFault.{StoreFault}
 use Rattle.store.specs.declared.fault.StoreFault.TheVariants.{Beyond}
@@ -18,7 +18,8 @@ as_values numbers = map Number numbers
 abbrev pub values_of : Readings → List Value
 values_of r = as_values (numbers_of r)
 
-abbrev pub added : List Value → Option (List Value) → Option (List Value)
+-- a list with the readings rs behind it
+abbrev pub added : {E : Type 0} → List E → Option (List E) → Option (List E)
 added rs None = None
 added rs (Some l) = Some (l ++ rs)
 
@@ -30,10 +31,10 @@ behind rs lists h = added rs (lists h)
 abbrev pub cost_below : List Value → (ℕ → ℕ) → ℕ → ℕ
 cost_below rs cost n = cost (n - length rs)
 
--- the number at a place, where there is one
-abbrev pub Picked : List ℤ → ℕ → Option ℤ → Type 0
-Picked numbers place None = length numbers ≤ place
-Picked numbers place (Some z) = (place < length numbers) × (z ≡ slice_index_or numbers place (pos 0))
+-- the element at a place, where there is one
+abbrev pub Picked : {E : Type 0} → List E → ℕ → Option E → Type 0
+Picked l place None = length l ≤ place
+Picked l place (Some x) = (place < length l) × (x ≡ slice_index_or l place x)
 
 -- the answer at an index that lies beyond the n elements below: a reading, or the whole length
 pub record Read (rs : List Value) (n i : ℕ) (r : Result Value StoreFault) : Type 0 where

@@ -1,9 +1,10 @@
 //! The layer that lays the readings behind every list of the store below.
 ghost use Rattle.std.specs.Prelude.{◌≡◌, ◌-◌, ◌≤◌, length, Some};
-ghost use Rattle.std.proofs.Common.{ap, ◌∙◌};
+ghost use Rattle.std.proofs.Common.{ap, refl, ◌∙◌};
 ghost use Rattle.store.specs.Lists.{Extended, Looked};
-ghost use Rattle.readings.specs.Behind.{values_of, added, behind, cost_below, Read};
+ghost use Rattle.readings.specs.Behind.{values_of, added, behind, cost_below, Picked, Read};
 
+use crate::environments::Environments;
 use crate::readings_list::Readings;
 use store::contract::{BareStore, Store};
 use store::fault::StoreFault;
@@ -65,6 +66,17 @@ impl<S: BareStore + Store<Elem = Value>> ReadingsLayer<S> {
         self.below.extend(handle, elem)
     }
 
+    /// A reading, as a run value.
+    #[inline]
+    fn reading_value(&self, number: u32) -> Option<Value>
+        ensures { Picked (values_of self.now.readings) number result }
+    {
+        match self.readings.get(number as usize) {
+            Some(reading) => Some(Value::Number(reading)),
+            None => None,
+        }
+    }
+
     /// Looks into the list below, and then among the readings behind it.
     #[inline]
     fn look_behind(&self, handle: u32, index: u32) -> Result<Value, StoreFault>
@@ -119,5 +131,25 @@ impl<S: BareStore + Store<Elem = Value>> Store for ReadingsLayer<S> {
     #[inline]
     fn free(&self) -> u32 {
         self.below.free()
+    }
+}
+
+impl<S: BareStore + Store<Elem = Value>> Environments for ReadingsLayer<S> {
+    ghost binders = { λ s. S.Store.lists s.below };
+
+    ghost readings = { λ s. values_of s.readings };
+
+    ghost base = { λ s. refl };
+
+    ghost behind = { λ s h. refl };
+
+    #[inline]
+    fn binder(&self, handle: u32, distance: u32) -> Result<Value, StoreFault> {
+        self.below.look(handle, distance)
+    }
+
+    #[inline]
+    fn reading(&self, number: u32) -> Option<Value> {
+        self.reading_value(number)
     }
 }

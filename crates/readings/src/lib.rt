@@ -8,5 +8,6 @@
 //! is the readings, its room is the room below, and each list costs what it costs below.
 #![tactic(auto)]
 
+pub mod environments;
 pub mod layer;
 pub mod readings_list;

@@ -5,16 +5,17 @@ use Rattle.std.proofs.lemmas.Bool.Decides.{nat_tests}
 use Rattle.syntax.specs.Record.{two_bytes, four_bytes}
 use Rattle.syntax.specs.Kinds.{byte_of, kind_of, operands_of}
 use Rattle.syntax.specs.declared.node.Node.{Node}
-use Rattle.syntax.specs.declared.node.Node.TheVariants.{Number, Truth, Variable, Function, Application, LetIn, Sum, AtMost, IfElse}
+use Rattle.syntax.specs.declared.node.Node.TheVariants.{Number, Truth, Variable, Reading, Function, Application, LetIn, Sum, AtMost, IfElse}
 use Rattle.record.specs.Bytes.{Stands, two_at}
 use Rattle.record.specs.Questions.{asked, width}
 use Rattle.record.proofs.Standing.{stands_inside}
 
--- the bytes behind a node's kind byte
+-- The bytes behind a node's kind byte. A record has no readings: there each variable is told by its distance.
 abbrev pub own : Node → List ℕ
 own (Number k) = four_bytes k
 own (Truth v) = []
 own (Variable d) = two_bytes d
+own (Reading j) = two_bytes j
 own (Function a) = []
 own (Application a b) = []
 own (LetIn a b) = []
@@ -29,11 +30,12 @@ kind h = byte_of (kind_of h)
 abbrev pub opening : Node → List ℕ
 opening h = kind h ∷ own h
 
--- a number is in range, a variable is bound
+-- a number is in range, a variable is told by its distance and bound
 abbrev pub Fine : ℕ → Node → Type 0
 Fine b (Number k) = FitsSigned w32 k
 Fine b (Truth v) = Unit {0}
 Fine b (Variable d) = d < b
+Fine b (Reading j) = ⊥
 Fine b (Function a) = Unit {0}
 Fine b (Application a c) = Unit {0}
 Fine b (LetIn a c) = Unit {0}
@@ -52,6 +54,7 @@ own_long (Number k) = refl
 own_long (Truth false) = refl
 own_long (Truth true) = refl
 own_long (Variable d) = refl
+own_long (Reading j) = refl
 own_long (Function a) = refl
 own_long (Application a b) = refl
 own_long (LetIn a b) = refl
@@ -86,6 +89,7 @@ passes s b n p (Variable d) small o =
     let f : d < b = o.fine in
     let e = two_at_bytes s (p + 1) d (omega arith) o.bytes.2 in
     distant s b n p o.among (stands_inside s p (4 ∷ two_bytes d) o.bytes) o.bytes.1 (subst (λ m. m < b) (sym e) f)
+passes s b n p (Reading j) small o = absurd o.fine
 passes s b n p (Function a) small o = plain s b n p 5 o.among o.bytes.0 o.bytes.1 (λ e. omega arith) (λ e. omega arith) (omega arith) (omega arith)
 passes s b n p (Application a c) small o = plain s b n p 6 o.among o.bytes.0 o.bytes.1 (λ e. omega arith) (λ e. omega arith) (omega arith) (omega arith)
 passes s b n p (LetIn a c) small o = plain s b n p 7 o.among o.bytes.0 o.bytes.1 (λ e. omega arith) (λ e. omega arith) (omega arith) (omega arith)
@@ -99,6 +103,7 @@ width_kind (Number k) = refl
 width_kind (Truth false) = refl
 width_kind (Truth true) = refl
 width_kind (Variable d) = refl
+width_kind (Reading j) = refl
 width_kind (Function a) = refl
 width_kind (Application a c) = refl
 width_kind (LetIn a c) = refl

@@ -21,25 +21,25 @@ abbrev pub Same : List Node → List Node → ℕ → ℕ → Type 0
 Same ns ms i n = (j : ℕ) → i ≤ j → j < i + n → node_at ms j ≡ node_at ns j
 
 -- a tree is held by every table with the same entries at its places
-pub holds_same : (ns ms : List Node) (i : ℕ) (t : Tree) → Same ns ms i (nodes t) → Holds ns i t → Holds ms i t
-holds_same ns ms i (number k) same h = same i (omega arith) (omega arith) ∙ h
-holds_same ns ms i (truth b) same h = same i (omega arith) (omega arith) ∙ h
-holds_same ns ms i (variable d) same h = same i (omega arith) (omega arith) ∙ h
-holds_same ns ms i (function t) same h =
-    (same i (omega arith) (omega arith) ∙ h.0, holds_same ns ms (i + 1) t (λ j a b. same j (omega arith) (omega arith)) h.1)
-holds_same ns ms i (application t u) same h =
-    (same i (omega arith) (omega arith) ∙ h.0, holds_same ns ms (i + 1) t (λ j a b. same j (omega arith) (omega arith)) h.1, holds_same ns ms (i + (1 + nodes t)) u (λ j a b. same j (omega arith) (omega arith)) h.2)
-holds_same ns ms i (let_in t u) same h =
-    (same i (omega arith) (omega arith) ∙ h.0, holds_same ns ms (i + 1) t (λ j a b. same j (omega arith) (omega arith)) h.1, holds_same ns ms (i + (1 + nodes t)) u (λ j a b. same j (omega arith) (omega arith)) h.2)
-holds_same ns ms i (sum t u) same h =
-    (same i (omega arith) (omega arith) ∙ h.0, holds_same ns ms (i + 1) t (λ j a b. same j (omega arith) (omega arith)) h.1, holds_same ns ms (i + (1 + nodes t)) u (λ j a b. same j (omega arith) (omega arith)) h.2)
-holds_same ns ms i (at_most t u) same h =
-    (same i (omega arith) (omega arith) ∙ h.0, holds_same ns ms (i + 1) t (λ j a b. same j (omega arith) (omega arith)) h.1, holds_same ns ms (i + (1 + nodes t)) u (λ j a b. same j (omega arith) (omega arith)) h.2)
-holds_same ns ms i (if_else t u v) same h = (
+pub holds_same : (ns ms : List Node) (b i : ℕ) (t : Tree) → Same ns ms i (nodes t) → Holds ns b i t → Holds ms b i t
+holds_same ns ms b i (number k) same h = same i (omega arith) (omega arith) ∙ h
+holds_same ns ms b i (truth v) same h = same i (omega arith) (omega arith) ∙ h
+holds_same ns ms b i (variable d) same h = same i (omega arith) (omega arith) ∙ h
+holds_same ns ms b i (function t) same h =
+    (same i (omega arith) (omega arith) ∙ h.0, holds_same ns ms (b + 1) (i + 1) t (λ j l m. same j (omega arith) (omega arith)) h.1)
+holds_same ns ms b i (application t u) same h =
+    (same i (omega arith) (omega arith) ∙ h.0, holds_same ns ms b (i + 1) t (λ j l m. same j (omega arith) (omega arith)) h.1, holds_same ns ms b (i + (1 + nodes t)) u (λ j l m. same j (omega arith) (omega arith)) h.2)
+holds_same ns ms b i (let_in t u) same h =
+    (same i (omega arith) (omega arith) ∙ h.0, holds_same ns ms b (i + 1) t (λ j l m. same j (omega arith) (omega arith)) h.1, holds_same ns ms (b + 1) (i + (1 + nodes t)) u (λ j l m. same j (omega arith) (omega arith)) h.2)
+holds_same ns ms b i (sum t u) same h =
+    (same i (omega arith) (omega arith) ∙ h.0, holds_same ns ms b (i + 1) t (λ j l m. same j (omega arith) (omega arith)) h.1, holds_same ns ms b (i + (1 + nodes t)) u (λ j l m. same j (omega arith) (omega arith)) h.2)
+holds_same ns ms b i (at_most t u) same h =
+    (same i (omega arith) (omega arith) ∙ h.0, holds_same ns ms b (i + 1) t (λ j l m. same j (omega arith) (omega arith)) h.1, holds_same ns ms b (i + (1 + nodes t)) u (λ j l m. same j (omega arith) (omega arith)) h.2)
+holds_same ns ms b i (if_else t u v) same h = (
   same i (omega arith) (omega arith) ∙ h.0,
-  holds_same ns ms (i + 1) t (λ j a b. same j (omega arith) (omega arith)) h.1,
-  holds_same ns ms (i + (1 + nodes t)) u (λ j a b. same j (omega arith) (omega arith)) h.2,
-  holds_same ns ms (i + (1 + (nodes t + nodes u))) v (λ j a b. same j (omega arith) (omega arith)) h.3,
+  holds_same ns ms b (i + 1) t (λ j l m. same j (omega arith) (omega arith)) h.1,
+  holds_same ns ms b (i + (1 + nodes t)) u (λ j l m. same j (omega arith) (omega arith)) h.2,
+  holds_same ns ms b (i + (1 + (nodes t + nodes u))) v (λ j l m. same j (omega arith) (omega arith)) h.3,
 )
 
 -- and a byte

@@ -2,6 +2,7 @@ pub mod Standing
 pub mod Asking
 pub mod Walking
 pub mod Holding
+pub mod Naming
 pub mod Telling
 pub mod Growing
 pub mod Stepping

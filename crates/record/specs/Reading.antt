@@ -33,38 +33,39 @@ abbrev pub Distance : List ℕ → ℕ → ℕ → Result ℕ RecordFault → Ty
 Distance s p b (Ok d) = (d < b) × Stands s (p + 1) (two_bytes d)
 Distance s p b (Err f) = (f ≡ Unbound p) × (b ≤ two_at s (p + 1))
 
--- a tree was read from place p to place e, and its nodes were put behind those that stood in the table
-pub record Grown (s : List ℕ) (b p : ℕ) (before after : List Node) (t : Tree) (e : ℕ) : Type 0 where
+-- a tree under b binders and r readings was read from place p to place e, and its nodes were put behind those that stood
+-- in the table
+pub record Grown (s : List ℕ) (r b p : ℕ) (before after : List Node) (t : Tree) (e : ℕ) : Type 0 where
   pub counted : length after ≡ length before + nodes t
   pub few : length after ≤ 512
   pub ends : e ≡ p + length (encode t)
   pub bytes : Stands s p (encode t)
-  pub proper : Proper b t
-  pub holds : Holds after (length before) t
+  pub proper : Proper (b + r) t
+  pub holds : Holds after b (length before) t
   pub kept : (i : ℕ) → i < length before → node_at after i ≡ node_at before i
 
--- one tree with b variables in force around it, or a refusal, whatever has to come behind the tree
-abbrev pub ReadsTree : ℕ → Reader → Reader → Result (Unit {0}) RecordFault → Type 0
-ReadsTree b before after (Ok u) = (after.bytes.now ≡ before.bytes.now) × (t : Tree) × Grown before.bytes.now b before.place before.nodes.items after.nodes.items t after.place
-ReadsTree b before after (Err f) = (more : List ℕ) → Refused before.bytes.now (b ∷ more) (length before.nodes.items) before.place (number_of f) (place_of f)
+-- one tree with b binders and r readings in force around it, or a refusal, whatever has to come behind the tree
+abbrev pub ReadsTree : ℕ → ℕ → Reader → Reader → Result (Unit {0}) RecordFault → Type 0
+ReadsTree r b before after (Ok u) = (after.bytes.now ≡ before.bytes.now) × (t : Tree) × Grown before.bytes.now r b before.place before.nodes.items after.nodes.items t after.place
+ReadsTree r b before after (Err f) = (more : List ℕ) → Refused before.bytes.now ((b + r) ∷ more) (length before.nodes.items) before.place (number_of f) (place_of f)
 
 -- two trees, the second with its root at node m
-pub record GrownTwice (s : List ℕ) (b c p : ℕ) (before after : List Node) (t u : Tree) (m e : ℕ) : Type 0 where
+pub record GrownTwice (s : List ℕ) (r b c p : ℕ) (before after : List Node) (t u : Tree) (m e : ℕ) : Type 0 where
   pub second : m ≡ length before + nodes t
   pub counted : length after ≡ length before + (nodes t + nodes u)
   pub few : length after ≤ 512
   pub ends : e ≡ p + (length (encode t) + length (encode u))
   pub first_bytes : Stands s p (encode t)
   pub second_bytes : Stands s (p + length (encode t)) (encode u)
-  pub first_proper : Proper b t
-  pub second_proper : Proper c u
-  pub first_holds : Holds after (length before) t
-  pub second_holds : Holds after (length before + nodes t) u
+  pub first_proper : Proper (b + r) t
+  pub second_proper : Proper (c + r) u
+  pub first_holds : Holds after b (length before) t
+  pub second_holds : Holds after c (length before + nodes t) u
   pub kept : (i : ℕ) → i < length before → node_at after i ≡ node_at before i
 
-abbrev pub ReadsTwo : ℕ → ℕ → Reader → Reader → Result ℕ RecordFault → Type 0
-ReadsTwo b c before after (Ok m) = (after.bytes.now ≡ before.bytes.now) × (t u : Tree) × GrownTwice before.bytes.now b c before.place before.nodes.items after.nodes.items t u m after.place
-ReadsTwo b c before after (Err f) = (more : List ℕ) → Refused before.bytes.now (b ∷ c ∷ more) (length before.nodes.items) before.place (number_of f) (place_of f)
+abbrev pub ReadsTwo : ℕ → ℕ → ℕ → Reader → Reader → Result ℕ RecordFault → Type 0
+ReadsTwo r b c before after (Ok m) = (after.bytes.now ≡ before.bytes.now) × (t u : Tree) × GrownTwice before.bytes.now r b c before.place before.nodes.items after.nodes.items t u m after.place
+ReadsTwo r b c before after (Err f) = (more : List ℕ) → Refused before.bytes.now ((b + r) ∷ (c + r) ∷ more) (length before.nodes.items) before.place (number_of f) (place_of f)
 
 -- the first four bytes are in order, or the first no
 abbrev pub Fronted : List ℕ → Result ℕ RecordFault → Type 0
@@ -73,7 +74,7 @@ Fronted s (Err f) = front s ≡ some (number_of f, place_of f)
 
 -- the table holds this tree and nothing else, and the tree may be sent
 pub record IsTree (r : Received) (t : Tree) : Type 0 where
-  pub holds : Holds r.nodes.items 0 t
+  pub holds : Holds r.nodes.items 0 0 t
   pub counted : length r.nodes.items ≡ nodes t
   pub sendable : Sendable r.readings t
 

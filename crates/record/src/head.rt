@@ -1,11 +1,13 @@
 //! A node's own bytes, its children apart.
-ghost use Rattle.std.specs.Prelude.{◌+◌, ◌≤◌, length};
+ghost use Rattle.std.specs.Prelude.{◌≡◌, ◌+◌, ◌≤◌, length};
+ghost use Rattle.record.specs.Nodes.{named};
 ghost use Rattle.record.specs.Reading.{Headed, Distance};
 
 use crate::bytes::two_bytes;
 use crate::fault::RecordFault;
 use crate::reader::Reader;
 use syntax::kind::Kind;
+use syntax::node::Node;
 
 impl Reader<'_> {
     /// The kind of the node that begins here; its own bytes are all there.
@@ -35,4 +37,15 @@ pub(crate) fn distance(bytes: &[u8], place: usize, bound: usize) -> Result<u16, 
         return Err(RecordFault::Unbound(place));
     }
     Ok(distance)
+}
+
+/// The node of a variable at a distance: it is one of the binders around it, or a reading behind them.
+pub(crate) fn named(distance: u16, binders: usize) -> Node
+    ensures { result ≡ named binders distance }
+{
+    if usize::from(distance) < binders {
+        Node::Variable(distance)
+    } else {
+        Node::Reading(distance - binders as u16)
+    }
 }

@@ -32,7 +32,7 @@ pub fn receive(bytes: &[u8]) -> Result<Received, RecordFault>
 {
     let readings = front(bytes)?;
     let mut reader = Reader::new(bytes, HEAD);
-    reader.tree(readings)?;
+    reader.tree(0, readings)?;
     let Reader {
         bytes,
         place: end,

@@ -4,17 +4,18 @@ ghost use Rattle.record.specs.Reading.{ReadsTree, ReadsTwo};
 
 use crate::bytes::four_bytes;
 use crate::fault::RecordFault;
-use crate::head::distance;
+use crate::head::{distance, named};
 use crate::reader::Reader;
 use syntax::kind::Kind;
 use syntax::node::Node;
 
 impl Reader<'_> {
-    /// Reads the tree that begins here, with `bound` variables in force around it.
+    /// Reads the tree that begins here, with so many binders in force around it, and behind them the readings.
     #[cycle(tree_two)]
-    pub(crate) fn tree(&mut self, bound: usize) -> Result<(), RecordFault>
-        requires { bound ≤ length self.old.nodes.items + 8 }
-        ensures { ReadsTree bound self.old self.new result }
+    pub(crate) fn tree(&mut self, binders: usize, readings: usize) -> Result<(), RecordFault>
+        requires binders { binders ≤ length self.old.nodes.items }
+        requires readings { readings ≤ 8 }
+        ensures { ReadsTree readings binders self.old self.new result }
     {
         let kind = self.head()?;
         let here = self.place;
@@ -23,19 +24,19 @@ impl Reader<'_> {
             Kind::Number => Node::Number(four_bytes(self.bytes, here + 1)),
             Kind::False => Node::Truth(false),
             Kind::True => Node::Truth(true),
-            Kind::Variable => Node::Variable(distance(self.bytes, here, bound)?),
+            Kind::Variable => named(distance(self.bytes, here, binders + readings)?, binders),
             Kind::Function => {
-                self.tree(bound + 1)?;
+                self.tree(binders + 1, readings)?;
                 Node::Function(at + 1)
             }
-            Kind::Application => Node::Application(at + 1, self.two(bound, bound)?),
-            Kind::LetIn => Node::LetIn(at + 1, self.two(bound, bound + 1)?),
-            Kind::Sum => Node::Sum(at + 1, self.two(bound, bound)?),
-            Kind::AtMost => Node::AtMost(at + 1, self.two(bound, bound)?),
+            Kind::Application => Node::Application(at + 1, self.two(binders, binders, readings)?),
+            Kind::LetIn => Node::LetIn(at + 1, self.two(binders, binders + 1, readings)?),
+            Kind::Sum => Node::Sum(at + 1, self.two(binders, binders, readings)?),
+            Kind::AtMost => Node::AtMost(at + 1, self.two(binders, binders, readings)?),
             Kind::IfElse => {
-                let then = self.two(bound, bound)?;
+                let then = self.two(binders, binders, readings)?;
                 let otherwise = self.next();
-                self.tree(bound)?;
+                self.tree(binders, readings)?;
                 Node::IfElse(at + 1, then, otherwise)
             }
         };
@@ -43,16 +44,17 @@ impl Reader<'_> {
         Ok(())
     }
 
-    /// Reads two trees, one behind the other, and answers the second's node.
+    /// Reads two trees, one behind the other, each under its own count of binders, and answers the second's node.
     #[cycle(tree_two)]
-    fn two(&mut self, first: usize, second: usize) -> Result<u16, RecordFault>
-        requires first { first ≤ length self.old.nodes.items + 8 }
-        requires second { second ≤ length self.old.nodes.items + 9 }
-        ensures { ReadsTwo first second self.old self.new result }
+    fn two(&mut self, first: usize, second: usize, readings: usize) -> Result<u16, RecordFault>
+        requires first { first ≤ length self.old.nodes.items }
+        requires second { second ≤ length self.old.nodes.items + 1 }
+        requires readings { readings ≤ 8 }
+        ensures { ReadsTwo readings first second self.old self.new result }
     {
-        self.tree(first)?;
+        self.tree(first, readings)?;
         let at = self.next();
-        self.tree(second)?;
+        self.tree(second, readings)?;
         Ok(at)
     }
 }

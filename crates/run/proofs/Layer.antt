@@ -13,6 +13,7 @@ use Rattle.reckoning.specs.Environments.{base}
 use Rattle.reckoning.specs.Room.{Room}
 use Rattle.reckoning.specs.Room as reckoning
 use Rattle.machine.specs.Handles.{AllStandFor}
+use Rattle.machine.specs.Places.{Rule, rule_of}
 use Rattle.machine.specs.Reducing.{room_of}
 use Rattle.machine.specs.Running.{Begins}
 
@@ -45,19 +46,24 @@ pub room_behind : (readings : List ℤ) (whole : ℕ) (cost : ℕ → ℕ) →
     room_of whole (cost_below (as_values readings) cost) ≡ reckoning.behind (length readings) (room_of whole cost)
 room_behind readings whole cost = ap (λ r. reckoning.behind r (room_of whole cost)) (length_as_values readings)
 
-pub readings_stand : (ns : List Node) (lists : Lists Value) (readings : List ℤ) → AllStandFor ns lists (as_values readings) (base readings)
-readings_stand ns lists [] = tt
-readings_stand ns lists (k ∷ readings) = (refl, readings_stand ns lists readings)
+-- its readings are as many run values
+pub rule_behind : (ns : List Node) (readings : List ℤ) → rule_of ns (as_values readings) ≡ rule_of ns readings
+rule_behind ns readings = ap (λ r. let rule : Rule = record { nodes = ns; readings = r } in rule) (length_as_values readings)
+
+pub readings_stand : (rule : Rule) (lists : Lists Value) (readings : List ℤ) → AllStandFor rule lists (as_values readings) (base readings)
+readings_stand rule lists [] = tt
+readings_stand rule lists (k ∷ readings) = (refl, readings_stand rule lists readings)
 
 -- a layer that was just cleared, and the table of a rule
 pub cleared_begins : (lists : Lists Value) (whole left : ℕ) (rule : Received) (t : Tree) (readings : List ℤ) → IsTree rule t →
-    Cleared lists (as_values readings) whole left → Begins rule.nodes.items lists whole left 0 t readings
+    Cleared lists (as_values readings) whole left → Begins (rule_of rule.nodes.items (as_values readings)) lists whole left 0 t readings
 cleared_begins lists whole left rule t readings is cleared =
     let counted = is.counted in
     record {
       holds = is.holds;
       inside = omega arith;
-      environment = (as_values readings, cleared.root, readings_stand rule.nodes.items lists readings);
+      as_many = length_as_values readings;
+      environment = (as_values readings, cleared.root, readings_stand (rule_of rule.nodes.items (as_values readings)) lists readings);
       alone = λ k other. cleared.alone k (omega arith);
       unspent = cleared.unspent;
     }

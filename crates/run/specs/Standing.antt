@@ -12,6 +12,7 @@ use Rattle.reckoning.specs.Room.{Room}
 use Rattle.reckoning.specs.Room as reckoning
 use Rattle.reckoning.specs.Reckoning.{reckoned}
 use Rattle.machine.specs.declared.steps.Machine.{Machine}
+use Rattle.machine.specs.Places.{rule_of}
 use Rattle.machine.specs.Reducing.{room_of}
 use Rattle.machine.specs.Running.{StandsAt, rooted}
 use Rattle.run.specs.declared.report.Report.{Report}
@@ -40,7 +41,7 @@ pub record IsAt {S : Type 0} (lists : S → Lists Value) (whole room : S → ℕ
   pub laid : run.readings ≡ readings
   pub stands :
       (let r = reckoning.behind (length readings) (room_of (whole run.store) (cost run.store)) in
-      StandsAt (nodes_of run) (behind (as_values readings) (lists run.store)) r (room run.store) (rooted 0 readings) run.machine
+      StandsAt (rule_of (nodes_of run) readings) (behind (as_values readings) (lists run.store)) r (room run.store) (rooted 0 readings) run.machine
       (reckoned r readings t g))
 
 -- at all times the rule is one tree that has a type, and the run is somewhere on its way

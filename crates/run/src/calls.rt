@@ -6,6 +6,7 @@ ghost use Rattle.readings.specs.Behind.{numbers_of, values_of, behind, cost_belo
 ghost use Rattle.calculus.specs.Types.{Ty, RuleHas};
 ghost use Rattle.typing.specs.Accepting.{IsRule};
 ghost use Rattle.reckoning.specs.Reckoning.{begun};
+ghost use Rattle.machine.specs.Places.{rule_of};
 ghost use Rattle.machine.specs.Reducing.{room_of};
 ghost use Rattle.machine.specs.Running.{StandsAt, rooted};
 ghost use Rattle.run.specs.Faults.{rewind_answer, grant_answer};
@@ -53,7 +54,7 @@ fn begin<S: BareStore + Store<Elem = Value>>(
     machine: &mut Machine,
 )
     requires as_many { length (numbers_of layer.old.readings) ≡ rule.now.readings }
-    ensures begun { (t : Tree) → IsTree rule.now t → StandsAt rule.now.nodes.items (behind (values_of layer.new.readings) (S.Store.lists layer.new.below)) (room_of (S.Store.whole layer.new.below) (cost_below (values_of layer.new.readings) (S.Store.cost layer.new.below))) (S.Store.room layer.new.below) (rooted 0 (numbers_of layer.new.readings)) machine.new (begun (numbers_of layer.new.readings) t) }
+    ensures begun { (t : Tree) → IsTree rule.now t → StandsAt (rule_of rule.now.nodes.items (values_of layer.new.readings)) (behind (values_of layer.new.readings) (S.Store.lists layer.new.below)) (room_of (S.Store.whole layer.new.below) (cost_below (values_of layer.new.readings) (S.Store.cost layer.new.below))) (S.Store.room layer.new.below) (rooted 0 (numbers_of layer.new.readings)) machine.new (begun (numbers_of layer.new.readings) t) }
     ensures readings { numbers_of layer.new.readings ≡ numbers_of layer.old.readings }
     ensures whole { S.Store.whole layer.new.below ≡ S.Store.whole layer.old.below }
     ensures cost { S.Store.cost layer.new.below ≡ S.Store.cost layer.old.below }

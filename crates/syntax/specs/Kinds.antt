@@ -4,7 +4,7 @@ use Rattle.syntax.specs.declared.kind.Kind.{Kind}
 use Rattle.syntax.specs.declared.kind.Kind.TheVariants as kind
 use Rattle.syntax.specs.declared.kind.UnknownKind.{UnknownKind}
 use Rattle.syntax.specs.declared.node.Node.{Node}
-use Rattle.syntax.specs.declared.node.Node.TheVariants.{Number, Truth, Variable, Function, Application, LetIn, Sum, AtMost, IfElse}
+use Rattle.syntax.specs.declared.node.Node.TheVariants.{Number, Truth, Variable, Reading, Function, Application, LetIn, Sum, AtMost, IfElse}
 
 -- the byte that a record announces a kind by
 abbrev pub byte_of : Kind → ℕ
@@ -42,6 +42,7 @@ kind_of (Number k) = kind.Number
 kind_of (Truth false) = kind.False
 kind_of (Truth true) = kind.True
 kind_of (Variable d) = kind.Variable
+kind_of (Reading j) = kind.Variable
 kind_of (Function a) = kind.Function
 kind_of (Application a b) = kind.Application
 kind_of (LetIn a b) = kind.LetIn

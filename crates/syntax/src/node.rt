@@ -15,6 +15,8 @@ pub enum Node {
     Truth(bool),
     /// How many binders stand between a variable and its own.
     Variable(u16),
+    /// A variable that is a reading: which one. Only the table of an accepted record tells it apart.
+    Reading(u16),
     Function(u16),
     Application(u16, u16),
     LetIn(u16, u16),
@@ -61,7 +63,7 @@ impl Node {
             Node::Number(_) => Kind::Number,
             Node::Truth(false) => Kind::False,
             Node::Truth(true) => Kind::True,
-            Node::Variable(_) => Kind::Variable,
+            Node::Variable(_) | Node::Reading(_) => Kind::Variable,
             Node::Function(_) => Kind::Function,
             Node::Application(_, _) => Kind::Application,
             Node::LetIn(_, _) => Kind::LetIn,

@@ -5,7 +5,7 @@ use Rattle.syntax.specs.Tree.{Tree, number, truth, variable, function, applicati
 use Rattle.syntax.specs.Record.{encode, two_bytes, four_bytes}
 use Rattle.syntax.specs.Kinds.{byte_of, kind_of}
 use Rattle.syntax.specs.declared.node.Node.{Node}
-use Rattle.syntax.specs.declared.node.Node.TheVariants.{Number, Truth, Variable, Function, Application, LetIn, Sum, AtMost, IfElse}
+use Rattle.syntax.specs.declared.node.Node.TheVariants.{Number, Truth, Variable, Reading, Function, Application, LetIn, Sum, AtMost, IfElse}
 use Rattle.nodes.specs.Nodes.{at, Holds}
 use Rattle.text.specs.Writing.{written, Put, Fits, Wrote}
 use Rattle.text.specs.declared.write.Writer.{Writer}
@@ -53,6 +53,7 @@ abbrev Split : List Node → ℕ → ℕ → List ℕ → Node → Type 0
 Split ns i byte bs (Number k) = bs ≡ byte ∷ four_bytes k
 Split ns i byte bs (Truth b) = bs ≡ byte ∷ []
 Split ns i byte bs (Variable d) = bs ≡ byte ∷ two_bytes d
+Split ns i byte bs (Reading j) = ⊥
 Split ns i byte bs (Function a) = (u : Tree) × (bs ≡ byte ∷ encode u) × (a < i) × Holds ns a u
 Split ns i byte bs (Application a b) = Two ns i byte bs a b
 Split ns i byte bs (LetIn a b) = Two ns i byte bs a b
@@ -97,6 +98,9 @@ module _ (ns : List Node) (i byte : ℕ) (own : byte ≡ byte_of (kind_of (at ns
 
   module _ (w w₁ : Writer) (p : Put w w₁ (byte ∷ [])) where
     -- bytes behind the kind
+    pub no_reading : (j : ℕ) → at ns i ≡ Reading j → Fits ns i w → ⊥
+    no_reading j is f = split f.0 (Reading j) f.2 is
+
     pub leaf_fits : (n : Node) (cs : List ℕ) → at ns i ≡ n → ((t : Tree) → Split ns i byte (encode t) n → encode t ≡ byte ∷ cs) → Fits ns i w → w₁.at + length cs ≤ length w₁.out.now
     leaf_fits n cs e same f = later w w₁ (byte ∷ []) (length cs) p (omega (arith, f.3, ap length (same f.0 (split f.0 n f.2 e))))
 

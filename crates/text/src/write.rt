@@ -45,6 +45,8 @@ impl Writer<'_> {
             Node::Number(number) => self.put(&number.to_be_bytes()),
             Node::Truth(_) => {}
             Node::Variable(distance) => self.put(&two_bytes(distance)),
+            // The table of a text tells every variable by its distance, as a record does.
+            Node::Reading(_) => unreachable!(),
             Node::Function(body) => self.tree(nodes, body),
             Node::Application(first, second)
             | Node::LetIn(first, second)

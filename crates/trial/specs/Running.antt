@@ -9,6 +9,7 @@ use Rattle.reckoning.specs.Room.{Room, free}
 use Rattle.reckoning.specs.Room as reckoning
 use Rattle.reckoning.specs.Reckoning.{Reckoned, State, waiting, over, no_store, no_stack, reckoned, state}
 use Rattle.machine.specs.Handles.{Owned}
+use Rattle.machine.specs.Places.{rule_of}
 use Rattle.machine.specs.Running.{rooted}
 use Rattle.run.specs.Faults.{rewind_answer, grant_answer}
 use Rattle.run.specs.Told.{state_of}
@@ -81,7 +82,7 @@ pub record Tells (report : Report) (s : Reckoned) : Type 0 where
 -- and no other handle but 0, the readings, has a list.
 pub record Leaves (room : Room) (ns : List Node) (readings : List ℤ) (s : Reckoned) (left : ℕ) (lists : Lists Value) : Type 0 where
   pub left_free : left ≡ free (reckoning.behind (length readings) room) s.made
-  pub lists_made : Owned ns (behind (as_values readings) lists) (rooted 0 readings) s.made
+  pub lists_made : Owned (rule_of ns readings) (behind (as_values readings) lists) (rooted 0 readings) s.made
 
 -- how the run of a trial leaves its store
 abbrev pub RunLeaves : Room → ℕ → Tree → List Node → List ℤ → ℕ → ℕ → Lists Value → Type 0

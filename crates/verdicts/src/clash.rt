@@ -4,7 +4,7 @@
 //! that those before it go together and that they no longer do with it. Its children come after it and have no part
 //! in that: what is told is what the node itself is, and what is asked where it stands.
 use crate::node_at::NodeAt;
-use crate::standing::{Role, Standing, standing_behind};
+use crate::standing::{Role, standing_behind};
 use messages::reason::Reason;
 use std::alloc::{AllocError, Global};
 use syntax::kind::Kind;
@@ -52,15 +52,10 @@ pub(crate) fn clash_at(heap: Global, node: NodeAt) -> Result<Reason, AllocError>
 impl Clash {
     fn at(heap: Global, node: NodeAt) -> Result<Clash, AllocError> {
         let kinds: Vec<Kind> = node.before().iter().map(|node| node.kind()).collect(heap)?;
-        let Standing { role, around } = standing_behind(heap, kinds.as_slice(), 0)?.unwrap_or(
-            Standing {
-                role: Role::Whole,
-                around: 0,
-            },
-        );
+        let standing = standing_behind(heap, kinds.as_slice(), 0)?;
         Ok(Clash {
-            own: node.node().map_or(Own::Any, |node| own_of(node, around)),
-            role,
+            own: node.node().map_or(Own::Any, own_of),
+            role: standing.map_or(Role::Whole, |standing| standing.role),
             before_a_minus: node.is_before_a_minus(),
         })
     }
@@ -130,16 +125,16 @@ impl Clash {
     }
 }
 
-/// What a node says of its type, with so many functions and lets around it.
-fn own_of(node: Node, around: usize) -> Own {
+/// What a node says of its type.
+fn own_of(node: Node) -> Own {
     match node {
         Node::Number(_) => Own::Told("a number is an int"),
         Node::Truth(_) => Own::Told("a truth is a bool"),
         Node::Sum(_, _) => Own::Told("a sum is an int"),
         Node::AtMost(_, _) => Own::Told("a comparison is a bool"),
         Node::Function(_) => Own::Told("`fun` makes a function"),
-        Node::Variable(distance) if usize::from(distance) < around => Own::Opened,
-        Node::Variable(_) => Own::Told("a reading is an int"),
+        Node::Variable(_) => Own::Opened,
+        Node::Reading(_) => Own::Told("a reading is an int"),
         Node::Application(_, _) | Node::LetIn(_, _) | Node::IfElse(_, _, _) => Own::Any,
     }
 }

@@ -42,7 +42,7 @@ impl<'a> NodeAt<'a> {
 /// The last child of a node, where it has any.
 fn last_child(node: Node) -> Option<usize> {
     match node {
-        Node::Number(_) | Node::Truth(_) | Node::Variable(_) => None,
+        Node::Number(_) | Node::Truth(_) | Node::Variable(_) | Node::Reading(_) => None,
         Node::Function(last) => Some(usize::from(last)),
         Node::Application(_, last) | Node::LetIn(_, last) => Some(usize::from(last)),
         Node::Sum(_, last) | Node::AtMost(_, last) => Some(usize::from(last)),

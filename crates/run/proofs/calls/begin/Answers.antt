@@ -2,6 +2,7 @@ use Rattle.std.proofs.Common.{◌≡◌, length, sym, ap, ◌∙◌, subst}
 use Rattle.readings.specs.Behind.{numbers_of, values_of, behind, cost_below}
 use Rattle.calculus.specs.Types.{RuleHas}
 use Rattle.machine.specs.Running.{Begins, StandsAt, rooted}
+use Rattle.machine.specs.Places.{rule_of}
 use Rattle.machine.specs.Reducing.{room_of}
 use Rattle.machine.proofs.Beginning.{never_stuck}
 use Rattle.reckoning.specs.Reckoning.{begun}
@@ -22,7 +23,7 @@ begin-requires g c =
     let typed = subst (λ n. RuleHas n rule.0 rule.1) (sym many) rule.3 in (
       rule.0,
       readings,
-      subst (λ ns. Begins ns (behind (values_of c.clear.new.self.readings) (g.S.Store.lists c.clear.new.self.below))
+      subst (λ ns. Begins (rule_of ns (values_of c.clear.new.self.readings)) (behind (values_of c.clear.new.self.readings) (g.S.Store.lists c.clear.new.self.below))
           (g.S.Store.whole c.clear.new.self.below) (g.S.Store.room c.clear.new.self.below) 0 rule.0 readings) (sym c.as_slice.ensures.value) begins,
       never_stuck (room_of 0 (λ n. n)) rule.0 rule.1 readings typed 0,
     )
@@ -36,9 +37,9 @@ returns-clause-begun g c t is =
     let whole = g.S.Store.whole c.clear.new.self.below in
     let room = g.S.Store.room c.clear.new.self.below in
     let begins = cleared_begins lists whole room c.args.rule.now t readings is c.clear.ensures.cleared in
-    subst (λ ns. StandsAt ns lists (room_of whole (cost_below (values_of c.clear.new.self.readings) (g.S.Store.cost c.clear.new.self.below))) room
+    subst (λ ns. StandsAt (rule_of ns (values_of c.clear.new.self.readings)) lists (room_of whole (cost_below (values_of c.clear.new.self.readings) (g.S.Store.cost c.clear.new.self.below))) room
     (rooted 0 readings) c.begin.new.self (begun readings t)) (sym items)
-    (c.begin.ensures t readings (subst (λ ns. Begins ns lists whole room 0 t readings) items begins))
+    (c.begin.ensures t readings (subst (λ ns. Begins (rule_of ns (values_of c.clear.new.self.readings)) lists whole room 0 t readings) items begins))
 
 pub returns-clause-readings : goal.returns-clause-readings
 returns-clause-readings g c =

@@ -1,6 +1,7 @@
 use Rattle.std.proofs.Common.{◌≡◌, refl, sym, ap, ◌∙◌, subst}
 use Rattle.readings.specs.Behind.{numbers_of, as_values, values_of, behind, cost_below}
 use Rattle.reckoning.specs.Reckoning.{Reckoned, reckoned, steps}
+use Rattle.machine.specs.Places.{rule_of}
 use Rattle.machine.specs.Running.{StandsAt, rooted}
 use Rattle.run.specs.Standing.{Seen, IsAt, Keeps}
 use Rattle.run.proofs.Layer.{as_values_injective, cost_below_injective}
@@ -20,7 +21,7 @@ grant-requires-clause-stands g c =
     let stands = stands_where_at g.S.Store.lists g.S.Store.whole g.S.Store.room g.S.Store.cost run k.tree run.readings k.granted k.at in (
       rooted 0 run.readings,
       s,
-      subst (λ ns. StandsAt ns (behind (values_of x.0.1.0.readings) (g.S.Store.lists x.0.1.0.below)) room
+      subst (λ ns. StandsAt (rule_of ns (values_of x.0.1.0.readings)) (behind (values_of x.0.1.0.readings) (g.S.Store.lists x.0.1.0.below)) room
           (g.S.Store.room x.0.1.0.below) (rooted 0 run.readings) x.0.1.1.0 s) (sym c.as_slice.ensures.value) stands,
       never_stuck_here g.S.Store.lists g.S.Store.whole g.S.Store.room g.S.Store.cost run k,
     )
@@ -35,12 +36,12 @@ invariant_of-self g c =
     let same_cost = cost_below_injective (values_of x.0.1.0.readings) (g.S.Store.cost new.store) (g.S.Store.cost old.store)
     (ap (λ rs. cost_below rs (g.S.Store.cost new.store)) (sym c.grant.ensures.base) ∙ c.grant.ensures.cost) in
     let goes : (s : Reckoned) → Stands g.S.Store.lists g.S.Store.whole g.S.Store.room g.S.Store.cost old s →
-    StandsAt old.rule.nodes.items (behind (as_values new.readings) (g.S.Store.lists new.store)) room (g.S.Store.room new.store)
+    StandsAt (rule_of old.rule.nodes.items (as_values old.readings)) (behind (as_values new.readings) (g.S.Store.lists new.store)) room (g.S.Store.room new.store)
     (rooted 0 old.readings) new.machine (steps room c.args.steps s) =
-    λ s h. subst (λ ns. StandsAt ns (behind (as_values new.readings) (g.S.Store.lists new.store)) room (g.S.Store.room new.store)
+    λ s h. subst (λ ns. StandsAt (rule_of ns (as_values old.readings)) (behind (as_values new.readings) (g.S.Store.lists new.store)) room (g.S.Store.room new.store)
     (rooted 0 old.readings) new.machine (steps room c.args.steps s)) c.as_slice.ensures.value
     (c.grant.ensures.goes (rooted 0 old.readings) s
-    (subst (λ ns. StandsAt ns (behind (as_values old.readings) (g.S.Store.lists old.store)) room (g.S.Store.room old.store)
+    (subst (λ ns. StandsAt (rule_of ns (as_values old.readings)) (behind (as_values old.readings) (g.S.Store.lists old.store)) room (g.S.Store.room old.store)
     (rooted 0 old.readings) old.machine s) (sym c.as_slice.ensures.value) h)) in
     let keeps : Keeps g.S.Store.lists g.S.Store.whole g.S.Store.room g.S.Store.cost old =
     subst (λ y. Keeps g.S.Store.lists g.S.Store.whole g.S.Store.room g.S.Store.cost
@@ -66,12 +67,12 @@ returns-clause-ok g c t readings n at =
     let same_cost = cost_below_injective (values_of x.0.1.0.readings) (g.S.Store.cost new.store) (g.S.Store.cost old.store)
     (ap (λ rs. cost_below rs (g.S.Store.cost new.store)) (sym c.grant.ensures.base) ∙ c.grant.ensures.cost) in
     let goes : (s : Reckoned) → Stands g.S.Store.lists g.S.Store.whole g.S.Store.room g.S.Store.cost old s →
-    StandsAt old.rule.nodes.items (behind (as_values new.readings) (g.S.Store.lists new.store)) room (g.S.Store.room new.store)
+    StandsAt (rule_of old.rule.nodes.items (as_values old.readings)) (behind (as_values new.readings) (g.S.Store.lists new.store)) room (g.S.Store.room new.store)
     (rooted 0 old.readings) new.machine (steps room c.args.steps s) =
-    λ s h. subst (λ ns. StandsAt ns (behind (as_values new.readings) (g.S.Store.lists new.store)) room (g.S.Store.room new.store)
+    λ s h. subst (λ ns. StandsAt (rule_of ns (as_values old.readings)) (behind (as_values new.readings) (g.S.Store.lists new.store)) room (g.S.Store.room new.store)
     (rooted 0 old.readings) new.machine (steps room c.args.steps s)) c.as_slice.ensures.value
     (c.grant.ensures.goes (rooted 0 old.readings) s
-    (subst (λ ns. StandsAt ns (behind (as_values old.readings) (g.S.Store.lists old.store)) room (g.S.Store.room old.store)
+    (subst (λ ns. StandsAt (rule_of ns (as_values old.readings)) (behind (as_values old.readings) (g.S.Store.lists old.store)) room (g.S.Store.room old.store)
     (rooted 0 old.readings) old.machine s) (sym c.as_slice.ensures.value) h)) in
     let seen : c.args.self.now ≡ old =
     sym (ap (λ y. let z : Seen g.row.S.Denot = record { rule = y.rule; readings = numbers_of y.layer.readings; store = y.layer.below; machine = y.machine } in z)

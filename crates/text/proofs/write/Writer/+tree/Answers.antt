@@ -4,7 +4,7 @@ use Rattle.syntax.specs.Kinds.{byte_of, kind_of}
 use Rattle.syntax.specs.declared.node.Node.TheVariants.{Number, Variable}
 use Rattle.nodes.specs.Nodes.{at}
 use Rattle.text.specs.Writing.{Put}
-use Rattle.text.proofs.Writes.{encode_some, HasTwo, leaf_fits, leaf_wrote, truth_wrote, body_fits, body_wrote, first_fits, second_fits, both_wrote, condition_fits, then_fits, else_fits, all_wrote}
+use Rattle.text.proofs.Writes.{encode_some, HasTwo, no_reading, leaf_fits, leaf_wrote, truth_wrote, body_fits, body_wrote, first_fits, second_fits, both_wrote, condition_fits, then_fits, else_fits, all_wrote}
 use Rattle.text.proofs.write.Writer.+tree.Goals as goal
 
 pub put-requires : goal.put-requires
@@ -35,6 +35,16 @@ put-requires-in-Variable t c =
     let d = c.in-Variable.distance in
     let fits = leaf_fits ns i c.from-2.result own w w₁ c.put.ensures.put (Variable d) (two_bytes d) (here ∙ c.in-Variable.is) (λ u s. s) c.requires in
     omega (arith, fits, ap length c.two_bytes.ensures)
+
+pub unreachable-requires : goal.unreachable-requires
+unreachable-requires t c =
+    let ns = c.args.nodes.now in
+    let i = c.args.root in
+    let w = c.args.self.now in
+    let w₁ = c.put.new.self in
+    let here : at ns i ≡ at ns c.from.result = ap (at ns) (sym c.from.ensures) in
+    let own : c.from-2.result ≡ byte_of (kind_of (at ns i)) = c.from-2.ensures ∙ ap byte_of c.kind.ensures ∙ ap (λ n. byte_of (kind_of n)) (sym here) in
+    no_reading ns i c.from-2.result own w w₁ c.put.ensures.put _ (here ∙ c.in-Reading.is) c.requires
 
 pub tree-requires : goal.tree-requires
 tree-requires t c =
