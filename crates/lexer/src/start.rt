@@ -3,7 +3,7 @@ ghost use Rattle.std.specs.Prelude.{◌≡◌, ◌+◌, ◌<◌, ◌≤◌, true
 ghost use Rattle.grammar.specs.Reading.{part, Longest};
 ghost use Rattle.grammar.specs.Spelling.{letter};
 ghost use Rattle.grammar.specs.Token.{numeral};
-ghost use Rattle.lexer.specs.Shown.{value, shown, Followed, TokenAt};
+ghost use Rattle.lexer.specs.Shown.{value, shown, Spelled, Followed, TokenAt};
 ghost use Rattle.lexer.specs.Runs.{Run};
 
 use crate::fault::LexFault;
@@ -21,7 +21,8 @@ pub(crate) struct Start<'a> {
 
 /// The keyword that a word is, or the name.
 fn word_token<'a>(word: &'a [u8]) -> Token<'a>
-    ensures { shown result ≡ Rattle.grammar.specs.Spelling.word word.now }
+    ensures shown { shown result ≡ Rattle.grammar.specs.Spelling.word word.now }
+    ensures part { Spelled word.now result }
 {
     match word {
         b"fun" => Token::Mark(Mark::Fun),
@@ -40,7 +41,10 @@ impl<'a> Start<'a> {
     /// The number whose digits begin here, or behind the minus that stands here.
     fn number(&self, digits: usize) -> Placed<'a>
         requires { (self.now.place ≤ digits) × (digits < length self.now.text.now) }
-        ensures { (result.place ≡ self.now.place) × ((Run Kind.Digit self.now.text.now (digits + 1) result.stop) × (shown result.token ≡ numeral (value (part self.now.text.now self.now.place result.stop)))) }
+        ensures place { result.place ≡ self.now.place }
+        ensures run { Run Kind.Digit self.now.text.now (digits + 1) result.stop }
+        ensures shown { shown result.token ≡ numeral (value (part self.now.text.now self.now.place result.stop)) }
+        ensures part { Spelled (part self.now.text.now self.now.place result.stop) result.token }
     {
         let place = self.place;
         let stop = Kind::Digit.run(self.text, digits + 1);
@@ -51,7 +55,9 @@ impl<'a> Start<'a> {
     /// The sign of so many bytes that stands here.
     fn sign(&self, mark: Mark, width: usize) -> Placed<'a>
         requires { self.now.place + width ≤ length self.now.text.now }
-        ensures { (result.place ≡ self.now.place) × ((result.stop ≡ self.now.place + width) × (shown result.token ≡ Rattle.grammar.specs.Token.mark «mark»)) }
+        ensures place { result.place ≡ self.now.place }
+        ensures stop { result.stop ≡ self.now.place + width }
+        ensures shown { shown result.token ≡ Rattle.grammar.specs.Token.mark «mark» }
     {
         Placed {
             token: Token::Mark(mark),
@@ -84,7 +90,9 @@ impl<'a> Start<'a> {
     /// The word that begins with a letter: a keyword or a name.
     fn word(&self) -> Placed<'a>
         requires { letter (slice_index self.now.text.now self.now.place) ≡ true }
-        ensures { (result.place ≡ self.now.place) × (Longest self.now.text.now self.now.place result.stop (shown result.token)) }
+        ensures place { result.place ≡ self.now.place }
+        ensures longest { Longest self.now.text.now self.now.place result.stop (shown result.token) }
+        ensures part { Spelled (part self.now.text.now self.now.place result.stop) result.token }
     {
         let place = self.place;
         let stop = Kind::Word.run(self.text, place + 1);
