@@ -1,3 +1,4 @@
 pub mod Tree
 pub mod Record
 pub mod Kinds
+pub mod Limits

@@ -1,0 +1,2 @@
+pub mod Complement
+pub mod Lengths
