@@ -1,5 +1,5 @@
 -- A tree whose names are in force and whose numbers are in range has all its variables bound. Assumes nothing.
-use Rattle.std.proofs.Common.{◌≡◌, ℕ, suc, ◌+◌, ◌<◌, Bool, true, false, cond, List, [], ◌∷◌, length, subst, ap, refl, arith}
+use Rattle.std.proofs.Common.{◌≡◌, ℕ, ◌+◌, ◌<◌, Bool, true, false, cond, List, [], ◌∷◌, length, subst, arith}
 use mathlib.Core.Option.{Option, some, none}
 use Rattle.syntax.specs.Tree.{Tree}
 use Rattle.grammar.specs.Token.{Name}

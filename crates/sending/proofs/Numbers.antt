@@ -1,6 +1,6 @@
 -- Where all tokens are in range, so are all numbers of what they derive. Assumes nothing.
-use Rattle.std.proofs.Common.{◌≡◌, ℕ, true, List, [], ◌∷◌, ◌++◌, ℤ}
-use Rattle.grammar.specs.Token.{Token, mark, name, numeral, end}
+use Rattle.std.proofs.Common.{◌≡◌, ℕ, true, List, [], ◌∷◌, ◌++◌}
+use Rattle.grammar.specs.Token.{Token}
 use Rattle.grammar.specs.Spelling.{in_range, fit}
 use Rattle.grammar.specs.Grammar.{Expr, Class, Derives, literal, boolean, used, lambda, apply, let_in, plus, at_most, if_else, fun_arrow, let_equals_in, if_then_else, only_cmp, only_sum, sum_at_most, only_app, sum_plus, only_atom, app_atom, a_number, a_true, a_false, a_name, in_parentheses}
 use Rattle.grammar.specs.Verdict.{Front, none_yet, and_next}

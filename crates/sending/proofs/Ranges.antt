@@ -1,7 +1,6 @@
 -- The three number ranges are one. Assumes nothing.
-use Rattle.std.proofs.Common.{◌≡◌, ◌<◌, ◌↔◌, true, ℤ, pos, negsuc, FitsSigned, w32, refl, ◌∙◌, sym, arith}
+use Rattle.std.proofs.Common.{◌≡◌, ◌<◌, true, ℤ, pos, negsuc, FitsSigned, w32, ◌∙◌, sym, arith}
 use Rattle.std.proofs.lemmas.Bool.Decides.{nat_tests}
-use Rattle.std.proofs.lemmas.Int.{ints}
 use Rattle.grammar.specs.Spelling as text
 use Rattle.calculus.specs.Range as stage
 use Rattle.sending.specs.Ranges.{OneRange}

@@ -1,11 +1,9 @@
 -- What compile writes is read. Assumes nothing.
-use Rattle.std.proofs.Common.{◌≡◌, ℕ, ◌≤◌, List, [], ◌∷◌, ◌++◌, length, Ok, Err, Result, sym, refl, ap, ◌∙◌, subst}
-use mathlib.Core.Option.{some}
+use Rattle.std.proofs.Common.{◌≡◌, ℕ, ◌≤◌, List, length, Ok, Err, Result, sym, refl, subst}
 use Rattle.std.proofs.lemmas.List.{same_from_push}
 use Rattle.syntax.specs.Tree.{Tree, nodes}
 use Rattle.syntax.specs.Record.{record_of}
 use Rattle.grammar.specs.Grammar.{Derives, expr}
-use Rattle.grammar.specs.Names.{resolved}
 use Rattle.grammar.specs.Token.{Name, end}
 use Rattle.grammar.specs.Verdict.{Means, Outcome, refused, compiled, Verdict, too_long, no_token, out_of_range, unexpected, unknown, too_many_nodes, no_room, a_record}
 use Rattle.record.specs.Faults.{number_of, place_of}

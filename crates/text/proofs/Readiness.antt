@@ -1,9 +1,8 @@
 -- What stays known from one call of the parser to the next. Assumes nothing.
-use Rattle.std.proofs.Common.{◌≡◌, ℕ, ◌<◌, ◌≤◌, true, false, List, length, min, Ok, ap, subst, arith}
+use Rattle.std.proofs.Common.{◌≡◌, ℕ, ◌<◌, ◌≤◌, false, List, length, min, Ok, ap, subst, arith}
 use Rattle.grammar.specs.Automaton.{is_end}
 use Rattle.grammar.specs.Walking.{Stand, Current, Went, Through}
 use Rattle.grammar.specs.Reading.{Next}
-use Rattle.grammar.specs.Spelling.{fit}
 use Rattle.lexer.specs.Shown.{shown, Lexes}
 use Rattle.lexer.specs.declared.token.Placed.{Placed}
 use Rattle.grammar.proofs.Walking.{went_current, through_current}
