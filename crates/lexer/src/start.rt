@@ -66,11 +66,11 @@ impl<'a> Start<'a> {
         }
     }
 
-    /// Whether the byte behind this one is the given one.
-    fn followed_by(&self, byte: u8) -> bool
-        ensures { Followed self.now.text.now self.now.place byte result }
+    /// Whether the byte behind this one is the given sign.
+    fn followed_by(&self, sign: char) -> bool
+        ensures { Followed self.now.text.now self.now.place sign result }
     {
-        self.text.get(self.place + 1) == Some(&byte)
+        self.text.get(self.place + 1).is_some_and(|byte| char::from(*byte) == sign)
     }
 
     /// The token that begins with a minus: an arrow, or a number below zero.
@@ -78,7 +78,7 @@ impl<'a> Start<'a> {
         requires { slice_index self.now.text.now self.now.place ≡ 45 }
         ensures { TokenAt self.now.text.now self.now.place result }
     {
-        if self.followed_by(b'>') {
+        if self.followed_by('>') {
             return Ok(self.sign(Mark::Arrow, 2));
         }
         match self.text.get(self.place + 1) {
@@ -104,15 +104,15 @@ impl<'a> Start<'a> {
     pub(crate) fn token(&self) -> Result<Placed<'a>, LexFault>
         ensures { TokenAt self.now.text.now self.now.place result }
     {
-        match self.text[self.place] {
-            b'(' => Ok(self.sign(Mark::Open, 1)),
-            b')' => Ok(self.sign(Mark::Close, 1)),
-            b'+' => Ok(self.sign(Mark::Plus, 1)),
-            b'=' => Ok(self.sign(Mark::Equals, 1)),
-            b'<' if self.followed_by(b'=') => Ok(self.sign(Mark::AtMost, 2)),
-            b'-' => self.minus(),
-            b'0'..=b'9' => Ok(self.number(self.place)),
-            b'A'..=b'Z' | b'a'..=b'z' => Ok(self.word()),
+        match char::from(self.text[self.place]) {
+            '(' => Ok(self.sign(Mark::Open, 1)),
+            ')' => Ok(self.sign(Mark::Close, 1)),
+            '+' => Ok(self.sign(Mark::Plus, 1)),
+            '=' => Ok(self.sign(Mark::Equals, 1)),
+            '<' if self.followed_by('=') => Ok(self.sign(Mark::AtMost, 2)),
+            '-' => self.minus(),
+            '0'..='9' => Ok(self.number(self.place)),
+            'A'..='Z' | 'a'..='z' => Ok(self.word()),
             _ => Err(LexFault::NoToken(self.place)),
         }
     }
