@@ -40,12 +40,20 @@ pub record OverAtStart (t : Tree) (a : Answer) : Type 0 where
 pub record Figures : Type 0 where
   -- int; with coil at 80 it gives 1, length 2
   pub heating_compiles :
-      Compiles (codes "coil" ∷ []) (codes "if 80 <= coil then 1 else 0") heating (codes "001601010a09010000005004000001000000010100000000")
+      Compiles
+      (codes "coil" ∷ [])
+      (codes "if 80 <= coil then 1 else 0")
+      heating
+      (codes "001601010a09010000005004000001000000010100000000")
   pub heating_accepted : Accepted 1 heating (0 ∷ [])
   pub heating_gives : Gives (pos 80 ∷ []) heating 2 (Answer.number (pos 1))
   -- int; gives 21, length 5; needs 3 linked cells or 7 flat slots; with 2 cells it stops as no store at node 6, count 2
   pub thrice_compiles :
-      Compiles [] (codes "(fun f -> fun x -> x + f x) (fun y -> y + y) 7") thrice (codes "001e010006060505080400000604000104000005080400000400000100000007")
+      Compiles
+      []
+      (codes "(fun f -> fun x -> x + f x) (fun y -> y + y) 7")
+      thrice
+      (codes "001e010006060505080400000604000104000005080400000400000100000007")
   pub thrice_accepted : Accepted 0 thrice (0 ∷ [])
   pub thrice_gives : Gives [] thrice 5 (Answer.number (pos 21))
   pub thrice_linked : Needs linked 3
@@ -64,7 +72,11 @@ pub record Figures : Type 0 where
   pub no_function_met_to_0 : (a : Assignment) × Meets 0 no_function 0 a
   -- int; the right sum leaves the range first, at node 4, count 0
   pub leaving_compiles :
-      Compiles [] (codes "(2147483647 + 1) + (2147483647 + 2)") (sum (leaving 1) (leaving 2)) (codes "001901000808017fffffff010000000108017fffffff0100000002")
+      Compiles
+      []
+      (codes "(2147483647 + 1) + (2147483647 + 2)")
+      (sum (leaving 1) (leaving 2))
+      (codes "001901000808017fffffff010000000108017fffffff0100000002")
   pub leaving_accepted : Accepted 0 (sum (leaving 1) (leaving 2)) (0 ∷ [])
   pub leaving_range : Gives [] (sum (leaving 1) (leaving 2)) 0 (Answer.range 4)
   -- numbers below zero, and the ends of the range; leading zeros and -0
@@ -75,7 +87,11 @@ pub record Figures : Type 0 where
   pub minus_zero : Compiles [] (codes "-0") (number (pos 0)) (codes "000701000100000000")
   -- two nested lets over one reading need 5 flat slots: the reading stands behind every list and costs nothing
   pub nested_compiles :
-      Compiles (codes "coil" ∷ []) (codes "let x = coil in let y = x in y") kept_twice (codes "000d01010704000007040000040000")
+      Compiles
+      (codes "coil" ∷ [])
+      (codes "let x = coil in let y = x in y")
+      kept_twice
+      (codes "000d01010704000007040000040000")
   pub nested_accepted : Accepted 1 kept_twice (0 ∷ [])
   pub nested_enough : Stands (behind 1 (flat 5)) (pos 80 ∷ []) kept_twice 2 2 (over (Answer.number (pos 80))) 0
   pub nested_short : Stands (behind 1 (flat 4)) (pos 80 ∷ []) kept_twice 2 1 (no_store 2) 2

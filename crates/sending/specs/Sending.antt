@@ -18,8 +18,15 @@ pub record Read (book : List Name) (s bytes : List ℕ) : Type 0 where
   pub sendable : Sendable (length book) tree
   pub is_record : bytes ≡ record_of (length book) tree
   pub never_refused : (k q : ℕ) → ¬ Refusal bytes k q
-  pub received : (answer : Result Received RecordFault) → Judged bytes answer → (x : Received) × (answer ≡ Ok x) × IsTree x tree × (x.readings ≡ length book)
+  pub received :
+      (answer : Result Received RecordFault) →
+      Judged bytes answer →
+      (x : Received) × (answer ≡ Ok x) × IsTree x tree × (x.readings ≡ length book)
 
 -- A book has at most 8 names.
 abbrev pub WrittenIsRead : Type 0
-WrittenIsRead = (book : List Name) (s : List ℕ) (room : ℕ) (bytes : List ℕ) → length book ≤ 8 → Verdict book s room (compiled bytes) → Read book s bytes
+WrittenIsRead =
+    (book : List Name) (s : List ℕ) (room : ℕ) (bytes : List ℕ) →
+    length book ≤ 8 →
+    Verdict book s room (compiled bytes) →
+    Read book s bytes

@@ -1,3 +1,2 @@
 pub mod Setting
 pub mod Standing
-pub mod SettingUp
