@@ -140,6 +140,18 @@ go_any book (let_name k) t s' h = h
 go_any book (let_equals x k) t s' h = h
 go_any book (accepted e) t s' h = h
 
+-- what is not known where any name would go on is a name
+pub unknown_name : (book : List Name) (s : State) (t : Token) (s' : State) → step in_force book s t ≡ unknown → step any book s t ≡ go s' → (x : Name) × (t ≡ name x)
+unknown_name book (operand cl sl ap k) (mark m) s' h g = absurd (go_not_unknown (step any book (operand cl sl ap k) (mark m)) s' g h)
+unknown_name book (operand cl sl ap k) (name x) s' h g = (x, refl)
+unknown_name book (operand cl sl ap k) (numeral z) s' h g = absurd (go_not_unknown (step any book (operand cl sl ap k) (numeral z)) s' g h)
+unknown_name book (operand cl sl ap k) end s' h g = absurd (go_not_unknown (step any book (operand cl sl ap k) end) s' g h)
+unknown_name book (fun_name k) t s' h g = absurd (go_not_unknown (step any book (fun_name k) t) s' g h)
+unknown_name book (fun_arrow x k) t s' h g = absurd (go_not_unknown (step any book (fun_arrow x k) t) s' g h)
+unknown_name book (let_name k) t s' h g = absurd (go_not_unknown (step any book (let_name k) t) s' g h)
+unknown_name book (let_equals x k) t s' h g = absurd (go_not_unknown (step any book (let_equals x k) t) s' g h)
+unknown_name book (accepted e) t s' h g = absurd (go_not_unknown (step any book (accepted e) t) s' g h)
+
 stuck? : Outcome → Bool
 stuck? (go s) = false
 stuck? stuck = true

@@ -277,7 +277,7 @@ module _ (s : List ℕ) where
       view (no_token a x) = judged a (ends_52 x)
       view (out_of_range a x y) = judged a (ends_54 x y)
       view (unexpected a x y z) = judged a (ends_55 x y z)
-      view (unknown a x y z w) = judged a (ends_57 x y z w)
+      view (unknown a x y z) = judged a (ends_57 x refl y z)
       view (too_many_nodes m h) = final m (final_58 h)
       view (no_room m h k) = final m (final_59 h k)
       view (a_record m h k) = final m (final_record h k)

@@ -10,10 +10,11 @@ use Rattle.grammar.specs.Names.{resolved}
 use Rattle.grammar.specs.Automaton.{State, accepted, go, stuck, is_end, start, run, in_force}
 use Rattle.grammar.specs.Walking.{Stand, Went, Passes, here, over, Unread, no_token, no_range, Wrong, unread, no_sentence, no_name}
 use Rattle.grammar.specs.Classes.{ReadExpr, RefusedExpr}
+use Rattle.grammar.specs.Sentence.{Begins, BeginsBound}
 use Rattle.grammar.specs.Verdict as verdict
 use Rattle.grammar.specs.Verdict.{Front, none_yet, and_next, Sofar, Means, Outcome, refused, Verdict}
 use Rattle.grammar.proofs.Completeness.{run_snoc}
-use Rattle.grammar.proofs.Judging.{begins_bound, stuck_begins, goes_begins, unknown_begins, accepted_sentence}
+use Rattle.grammar.proofs.Judging.{begins_bound, unknown_name, stuck_begins, goes_begins, unknown_begins, accepted_sentence}
 
 end_is : (t : Token) → is_end t ≡ true → t ≡ end
 end_is (mark m) h = absurd (true≢false (sym h))
@@ -49,7 +50,8 @@ module _ (book : List Name) (s : List ℕ) (short : length s ≤ 4096) (room : �
       unread_verdict (ts ++ p.token ∷ []) p.stop n place (sofar (ts ++ p.token ∷ []) p.stop a' (and_next b.front b.next b.in_range o) (run_snoc in_force book (start []) ts p.token h ∙ x)) u
   wrong_verdict ts p a n place b h (no_sentence x) = verdict.unexpected (sofar ts b.to a b.front h) b.next b.in_range (stuck_begins book ts a p.token h x)
   wrong_verdict ts p a n place b h (no_name {a'} x y) =
-      verdict.unknown (sofar ts b.to a b.front h) b.next b.in_range (goes_begins book ts a a' p.token h y) (unknown_begins book ts a p.token h x)
+      let it = unknown_name book a p.token a' x y in
+      verdict.unknown (sofar ts b.to a b.front h) (subst (λ t. Next s b.to t p.place p.stop) it.1 b.next) (subst (λ t. Begins (ts ++ t ∷ [])) it.1 (goes_begins book ts a a' p.token h y)) (subst (λ t. BeginsBound book (ts ++ t ∷ []) → ⊥) it.1 (unknown_begins book ts a p.token h x))
 
   pub first_unread : (n place : ℕ) → Unread s 0 n place → Verdict book s room (refused n place)
   first_unread n place u = unread_verdict [] 0 n place (sofar [] 0 (start []) none_yet refl) u

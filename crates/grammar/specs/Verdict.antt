@@ -3,7 +3,7 @@ use Rattle.std.specs.Prelude.{◌≡◌, ℕ, ◌<◌, ◌≤◌, true, false, L
 use Rattle.std.proofs.Math.Option.{some}
 use Rattle.syntax.specs.Tree.{Tree, nodes}
 use Rattle.syntax.specs.Record.{record_of}
-use Rattle.grammar.specs.Token.{Name, Token, numeral, end}
+use Rattle.grammar.specs.Token.{Name, Token, name, numeral, end}
 use Rattle.grammar.specs.Spelling.{in_range, fit}
 use Rattle.grammar.specs.Reading.{Next, NoNext}
 use Rattle.grammar.specs.Grammar.{Expr}
@@ -45,7 +45,7 @@ pub data Verdict (book : List Name) (s : List ℕ) (room : ℕ) : Outcome → Ty
   no_token : {ts : List Token} {to place : ℕ} → Sofar book s ts to → NoNext s to place → Verdict book s room (refused 52 place)
   out_of_range : {ts : List Token} {to place stop : ℕ} {z : ℤ} → Sofar book s ts to → Next s to (numeral z) place stop → in_range z ≡ false → Verdict book s room (refused 54 place)
   unexpected : {ts : List Token} {to place stop : ℕ} {t : Token} → Sofar book s ts to → Next s to t place stop → fit t ≡ true → ¬ Begins (ts ++ t ∷ []) → Verdict book s room (refused 55 place)
-  unknown : {ts : List Token} {to place stop : ℕ} {t : Token} → Sofar book s ts to → Next s to t place stop → fit t ≡ true → Begins (ts ++ t ∷ []) → ¬ BeginsBound book (ts ++ t ∷ []) → Verdict book s room (refused 57 place)
+  unknown : {ts : List Token} {to place stop : ℕ} {x : Name} → Sofar book s ts to → Next s to (name x) place stop → Begins (ts ++ name x ∷ []) → ¬ BeginsBound book (ts ++ name x ∷ []) → Verdict book s room (refused 57 place)
   too_many_nodes : {t : Tree} → Means book s t → 512 < nodes t → Verdict book s room (refused 58 0)
   no_room : {t : Tree} → Means book s t → nodes t ≤ 512 → room < length (record_of (length book) t) → Verdict book s room (refused 59 0)
   a_record : {t : Tree} → Means book s t → nodes t ≤ 512 → length (record_of (length book) t) ≤ room → Verdict book s room (compiled (record_of (length book) t))

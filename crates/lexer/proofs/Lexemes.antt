@@ -1,6 +1,7 @@
 -- The tokens that the lexer makes are the longest ones. Assumes nothing.
-use Rattle.std.proofs.Common.{◌≡◌, ℕ, ◌+◌, ◌<◌, ◌≤◌, true, false, eqb, List, ◌∷◌, length, get_or, pos, neg_ℤ, sym, refl, ap, ◌∙◌, subst, arith, ne_eqb}
+use Rattle.std.proofs.Common.{◌≡◌, ℕ, ◌+◌, ◌<◌, ◌≤◌, true, false, eqb, List, ◌∷◌, length, get_or, Ok, ℤ, pos, neg_ℤ, true≢false, sym, refl, ap, ◌∙◌, subst, arith, ne_eqb}
 use Rattle.std.proofs.lemmas.Bool.Decides.{nat_tests}
+use Rattle.grammar.specs.declared.Mark as grammar
 use Rattle.grammar.specs.Token.{mark, numeral}
 use Rattle.grammar.specs.Token as plain
 use Rattle.grammar.specs.Spelling.{letter, digit, decimal}
@@ -9,17 +10,36 @@ use Rattle.grammar.proofs.Lexing.{part_cons, longest_digits, longest_minus, none
 use Rattle.lexer.specs.declared.token.Placed.{Placed}
 use Rattle.lexer.specs.declared.run.Kind.TheVariants.{Digit}
 use Rattle.grammar.specs.Reading.{NoNext}
-use Rattle.grammar.specs.Walking.{Unread}
+use Rattle.grammar.specs.Walking.{Unread, is_name}
 use Rattle.grammar.specs.Walking.{no_token as unread}
 use Rattle.lexer.specs.declared.fault.LexFault.{LexFault}
 use Rattle.lexer.specs.declared.fault.LexFault.TheVariants.{NoToken}
 use Rattle.lexer.specs.Faults.{number, place}
-use Rattle.lexer.specs.Shown.{value, shown}
+use Rattle.lexer.specs.declared.token.Token.{Token}
+use Rattle.lexer.specs.declared.token.Token.TheVariants.{Mark, Name, Number, End}
+use Rattle.lexer.specs.Shown.{value, shown, Spelled, TokenAt}
 use Rattle.lexer.specs.Runs.{Run}
 
 -- a placed token that shows t up to stop is the longest one where t is
-pub placed : (s : List ℕ) (place stop : ℕ) (t : plain.Token) (p : Placed) → (p.stop ≡ stop) × (shown p.token ≡ t) → Longest s place stop t → Longest s place p.stop (shown p.token)
-placed s place stop t p h l = subst (λ u. Longest s place p.stop u) (sym h.1) (subst (λ n. Longest s place n t) (sym h.0) l)
+placed : (s : List ℕ) (place stop : ℕ) (t : plain.Token) (p : Placed) → p.stop ≡ stop → shown p.token ≡ t → Longest s place stop t → Longest s place p.stop (shown p.token)
+placed s place stop t p h e l = subst (λ u. Longest s place p.stop u) (sym e) (subst (λ n. Longest s place n t) (sym h) l)
+
+numeral_no_mark : (z : ℤ) (m : grammar.Mark) → numeral z ≡ mark m → ⊥
+numeral_no_mark z m e = let no : true ≡ false = cc in true≢false no
+
+-- a sign is no name and no number
+sign_spelled : (bytes : List ℕ) (t : Token) (m : grammar.Mark) → shown t ≡ mark m → Spelled bytes t
+sign_spelled bytes (Mark n) m e = tt
+sign_spelled bytes (Name x) m e = absurd (true≢false (ap is_name e))
+sign_spelled bytes (Number x) m e = absurd (numeral_no_mark _ m e)
+sign_spelled bytes End m e = tt
+
+module _ (s : List ℕ) (place : ℕ) (p : Placed) (here : p.place ≡ place) where
+  pub sign_at : (m : grammar.Mark) (stop : ℕ) → p.stop ≡ stop → shown p.token ≡ mark m → Longest s place stop (mark m) → TokenAt s place (Ok p)
+  sign_at m stop h e l = (here, placed s place stop (mark m) p h e l, sign_spelled (part s place p.stop) p.token m e)
+
+  pub number_at : shown p.token ≡ numeral (value (part s place p.stop)) → Spelled (part s place p.stop) p.token → Longest s place p.stop (numeral (value (part s place p.stop))) → TokenAt s place (Ok p)
+  number_at e spelled l = (here, placed s place p.stop (numeral (value (part s place p.stop))) p refl e l, spelled)
 
 digit_no_minus : (c : ℕ) → digit c ≡ true → eqb c 45 ≡ false
 digit_no_minus c h = grind (arith, nat_tests)

@@ -5,7 +5,7 @@ use Rattle.grammar.specs.Token.{mark, name, numeral, end}
 use Rattle.grammar.specs.Token as plain
 use Rattle.grammar.specs.Spelling.{decimal, fit}
 use Rattle.grammar.specs.Walking.{Unread, is_name}
-use Rattle.grammar.specs.Reading.{Next, NoNext, NoneBeyond, Longest}
+use Rattle.grammar.specs.Reading.{part, Next, NoNext, NoneBeyond, Longest}
 use Rattle.lexer.specs.declared.fault.LexFault.{LexFault}
 use Rattle.lexer.specs.declared.fault.LexFault.TheVariants.{NoToken}
 use Rattle.lexer.specs.Faults.{number, place}
@@ -24,6 +24,13 @@ shown (Name x) = name x.now
 shown (Number x) = numeral (value x.now)
 shown End = end
 
+-- names and numbers are parts of the text itself: these bytes of it
+abbrev pub Spelled : List ℕ → Token → Type 0
+Spelled bytes (Mark m) = Unit {0}
+Spelled bytes (Name x) = x.now ≡ bytes
+Spelled bytes (Number x) = x.now ≡ bytes
+Spelled bytes End = Unit {0}
+
 -- whether the byte after a place is this one
 abbrev pub Followed : List ℕ → ℕ → ℕ → Bool → Type 0
 Followed s place c true = (place + 1 < length s) × (slice_index s (place + 1) ≡ c)
@@ -31,17 +38,17 @@ Followed s place c false = place + 1 < length s → slice_index s (place + 1) �
 
 -- the longest token at a place, or that none begins there
 abbrev pub TokenAt : List ℕ → ℕ → Result Placed LexFault → Type 0
-TokenAt s place (Ok p) = (p.place ≡ place) × Longest s place p.stop (shown p.token)
+TokenAt s place (Ok p) = (p.place ≡ place) × Longest s place p.stop (shown p.token) × Spelled (part s place p.stop) p.token
 TokenAt s place (Err f) = (f ≡ NoToken place) × NoneBeyond s place place
 
 -- the next token after `from`, or the place where none begins
 abbrev pub Scans : List ℕ → ℕ → Result Placed LexFault → Type 0
-Scans s from (Ok p) = Next s from (shown p.token) p.place p.stop
+Scans s from (Ok p) = Next s from (shown p.token) p.place p.stop × Spelled (part s p.place p.stop) p.token
 Scans s from (Err f) = (f ≡ NoToken (place f)) × NoNext s from (place f)
 
 -- the next token after `from`, in range, or why it is refused
 abbrev pub Lexes : List ℕ → ℕ → Result Placed LexFault → Type 0
-Lexes s from (Ok p) = Next s from (shown p.token) p.place p.stop × (fit (shown p.token) ≡ true)
+Lexes s from (Ok p) = Next s from (shown p.token) p.place p.stop × (fit (shown p.token) ≡ true) × Spelled (part s p.place p.stop) p.token
 Lexes s from (Err f) = Unread s from (number f) (place f)
 
 -- whether a token, if there is one, is a name

@@ -3,7 +3,7 @@ ghost use Rattle.std.specs.Prelude.{◌≡◌, ◌+◌, ◌<◌, ◌≤◌, true
 ghost use Rattle.grammar.specs.Reading.{part, Longest};
 ghost use Rattle.grammar.specs.Spelling.{letter};
 ghost use Rattle.grammar.specs.Token.{numeral};
-ghost use Rattle.lexer.specs.Shown.{value, shown, Followed, TokenAt};
+ghost use Rattle.lexer.specs.Shown.{value, shown, Spelled, Followed, TokenAt};
 ghost use Rattle.lexer.specs.Runs.{Run};
 
 use crate::fault::LexFault;
@@ -21,7 +21,8 @@ pub(crate) struct Start<'a> {
 
 /// The keyword that a word is, or the name.
 fn word_token<'a>(word: &'a [u8]) -> Token<'a>
-    ensures { shown result ≡ Rattle.grammar.specs.Spelling.word word.now }
+    ensures shown { shown result ≡ Rattle.grammar.specs.Spelling.word word.now }
+    ensures part { Spelled word.now result }
 {
     match word {
         b"fun" => Token::Mark(Mark::Fun),
@@ -40,7 +41,10 @@ impl<'a> Start<'a> {
     /// The number whose digits begin here, or behind the minus that stands here.
     fn number(&self, digits: usize) -> Placed<'a>
         requires { (self.now.place ≤ digits) × (digits < length self.now.text.now) }
-        ensures { (result.place ≡ self.now.place) × ((Run Kind.Digit self.now.text.now (digits + 1) result.stop) × (shown result.token ≡ numeral (value (part self.now.text.now self.now.place result.stop)))) }
+        ensures place { result.place ≡ self.now.place }
+        ensures run { Run Kind.Digit self.now.text.now (digits + 1) result.stop }
+        ensures shown { shown result.token ≡ numeral (value (part self.now.text.now self.now.place result.stop)) }
+        ensures part { Spelled (part self.now.text.now self.now.place result.stop) result.token }
     {
         let place = self.place;
         let stop = Kind::Digit.run(self.text, digits + 1);
@@ -51,7 +55,9 @@ impl<'a> Start<'a> {
     /// The sign of so many bytes that stands here.
     fn sign(&self, mark: Mark, width: usize) -> Placed<'a>
         requires { self.now.place + width ≤ length self.now.text.now }
-        ensures { (result.place ≡ self.now.place) × ((result.stop ≡ self.now.place + width) × (shown result.token ≡ Rattle.grammar.specs.Token.mark «mark»)) }
+        ensures place { result.place ≡ self.now.place }
+        ensures stop { result.stop ≡ self.now.place + width }
+        ensures shown { shown result.token ≡ Rattle.grammar.specs.Token.mark «mark» }
     {
         Placed {
             token: Token::Mark(mark),
@@ -60,11 +66,11 @@ impl<'a> Start<'a> {
         }
     }
 
-    /// Whether the byte behind this one is the given one.
-    fn followed_by(&self, byte: u8) -> bool
-        ensures { Followed self.now.text.now self.now.place byte result }
+    /// Whether the byte behind this one is the given sign.
+    fn followed_by(&self, sign: char) -> bool
+        ensures { Followed self.now.text.now self.now.place sign result }
     {
-        self.text.get(self.place + 1) == Some(&byte)
+        self.text.get(self.place + 1).is_some_and(|byte| char::from(*byte) == sign)
     }
 
     /// The token that begins with a minus: an arrow, or a number below zero.
@@ -72,7 +78,7 @@ impl<'a> Start<'a> {
         requires { slice_index self.now.text.now self.now.place ≡ 45 }
         ensures { TokenAt self.now.text.now self.now.place result }
     {
-        if self.followed_by(b'>') {
+        if self.followed_by('>') {
             return Ok(self.sign(Mark::Arrow, 2));
         }
         match self.text.get(self.place + 1) {
@@ -84,7 +90,9 @@ impl<'a> Start<'a> {
     /// The word that begins with a letter: a keyword or a name.
     fn word(&self) -> Placed<'a>
         requires { letter (slice_index self.now.text.now self.now.place) ≡ true }
-        ensures { (result.place ≡ self.now.place) × (Longest self.now.text.now self.now.place result.stop (shown result.token)) }
+        ensures place { result.place ≡ self.now.place }
+        ensures longest { Longest self.now.text.now self.now.place result.stop (shown result.token) }
+        ensures part { Spelled (part self.now.text.now self.now.place result.stop) result.token }
     {
         let place = self.place;
         let stop = Kind::Word.run(self.text, place + 1);
@@ -96,15 +104,15 @@ impl<'a> Start<'a> {
     pub(crate) fn token(&self) -> Result<Placed<'a>, LexFault>
         ensures { TokenAt self.now.text.now self.now.place result }
     {
-        match self.text[self.place] {
-            b'(' => Ok(self.sign(Mark::Open, 1)),
-            b')' => Ok(self.sign(Mark::Close, 1)),
-            b'+' => Ok(self.sign(Mark::Plus, 1)),
-            b'=' => Ok(self.sign(Mark::Equals, 1)),
-            b'<' if self.followed_by(b'=') => Ok(self.sign(Mark::AtMost, 2)),
-            b'-' => self.minus(),
-            b'0'..=b'9' => Ok(self.number(self.place)),
-            b'A'..=b'Z' | b'a'..=b'z' => Ok(self.word()),
+        match char::from(self.text[self.place]) {
+            '(' => Ok(self.sign(Mark::Open, 1)),
+            ')' => Ok(self.sign(Mark::Close, 1)),
+            '+' => Ok(self.sign(Mark::Plus, 1)),
+            '=' => Ok(self.sign(Mark::Equals, 1)),
+            '<' if self.followed_by('=') => Ok(self.sign(Mark::AtMost, 2)),
+            '-' => self.minus(),
+            '0'..='9' => Ok(self.number(self.place)),
+            'A'..='Z' | 'a'..='z' => Ok(self.word()),
             _ => Err(LexFault::NoToken(self.place)),
         }
     }

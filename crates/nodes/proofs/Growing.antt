@@ -37,17 +37,20 @@ module _ (before after : Table) (n : Node) (place : ℕ) (p : Pushed before afte
   pub push_room : count before < 512
   push_room = omega (arith, p.counted)
 
+  push_place : count before < 513
+  push_place = omega (arith, push_room)
+
   pub push_next : count after ≡ count before + 1
   push_next = omega (arith, p.counted)
 
   pub push_here : at after.nodes.items place ≡ n
-  push_here = ap (λ i. at after.nodes.items i) p.behind ∙ ap (λ l. at l (count before)) (p.stored push_room) ∙ get_or-append_seam before.nodes.items n [] (Number (pos 0))
+  push_here = ap (λ i. at after.nodes.items i) p.behind ∙ ap (λ l. at l (count before)) (p.stored push_place) ∙ get_or-append_seam before.nodes.items n [] (Number (pos 0))
 
   pub push_below : (i : ℕ) → i < count before → at after.nodes.items i ≡ at before.nodes.items i
-  push_below i lt = ap (λ l. at l i) (p.stored push_room) ∙ get_or-append before.nodes.items (n ∷ []) (Number (pos 0)) i lt
+  push_below i lt = ap (λ l. at l i) (p.stored push_place) ∙ get_or-append before.nodes.items (n ∷ []) (Number (pos 0)) i lt
 
   pub push_wider : after.bytes ≡ before.bytes + width n
-  push_wider = p.wider push_room
+  push_wider = p.wider push_place
 
 -- ── trees from their parts ──
 

@@ -31,11 +31,13 @@ Holds ns i (if_else t u v) = (a b c : ℕ) × (a < i) × (b < i) × (c < i) × (
 abbrev pub count : Table → ℕ
 count table = array_vec_len table.nodes
 
+-- a node was put behind the others and its bytes were added; a table of 513 nodes stays as it is
 pub record Pushed (before after : Table) (n : Node) (place : ℕ) : Type 0 where
   pub behind : place ≡ count before
   pub counted : count after ≡ min (count before + 1) 513
-  pub stored : count before < 512 → after.nodes.items ≡ before.nodes.items ++ n ∷ []
-  pub wider : count before < 512 → after.bytes ≡ before.bytes + width n
+  pub stored : count before < 513 → after.nodes.items ≡ before.nodes.items ++ n ∷ []
+  pub wider : count before < 513 → after.bytes ≡ before.bytes + width n
+  pub full : count before ≡ 513 → (after.nodes.items ≡ before.nodes.items) × (after.bytes ≡ before.bytes)
 
 -- after a tree was read into a table, with its root at a place
 pub record Grown (before after : Table) (t : Tree) (root : ℕ) : Type 0 where

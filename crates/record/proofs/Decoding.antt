@@ -4,7 +4,8 @@ use mathlib.Core.Option.{Option, some, none}
 use native.Mathlib.Nat.{div-div-eq-div-mul}
 use Rattle.std.proofs.lemmas.Int.{to_z-of_z, ints}
 use Rattle.syntax.specs.Tree.{Tree, number, truth, variable, function, application, let_in, sum, at_most, if_else, nodes}
-use Rattle.syntax.specs.Record.{encode}
+use Rattle.syntax.specs.Record.{complement, encode}
+use Rattle.syntax.proofs.Complement.{complement_is}
 use Rattle.record.specs.Proper.{Proper}
 use Rattle.record.proofs.Holding.{some_node}
 
@@ -64,10 +65,11 @@ bytes_back x small =
     joined x (x / 256) (x / 65536) (x / 16777216) (x % 256) (x / 256 % 256) (x / 65536 % 256) (x / 16777216 % 256) (digit x)
     (ap (λ y. x / 256 % 256 + 256 * y) (sym a) ∙ digit (x / 256)) (ap (λ y. x / 65536 % 256 + 256 * y) (sym b) ∙ digit (x / 65536)) (mod-eq_of_lt top)
 
-number_back : (k : ℤ) → SFits w32 k → to_z w32 (of_z w32 k / 16777216 % 256 * 16777216 + of_z w32 k / 65536 % 256 * 65536 + of_z w32 k / 256 % 256 * 256 + of_z w32 k % 256) ≡ k
+number_back : (k : ℤ) → SFits w32 k → to_z w32 (complement k / 16777216 % 256 * 16777216 + complement k / 65536 % 256 * 65536 + complement k / 256 % 256 * 256 + complement k % 256) ≡ k
 number_back k fits =
-    let small : of_z w32 k < 4294967296 = omega (arith, ints) in
-    ap (to_z w32) (bytes_back (of_z w32 k) small) ∙ to_z-of_z w32 k fits
+    let in_32_bits : of_z w32 k < 4294967296 = omega (arith, ints) in
+    let small : complement k < 4294967296 = omega (arith, in_32_bits, complement_is k) in
+    ap (to_z w32) (bytes_back (complement k) small ∙ sym (complement_is k)) ∙ to_z-of_z w32 k fits
 
 two_back : (rec : List ℕ → Found) (make : Tree → Tree → Tree) (t u : Tree) (w : List ℕ) → rec (encode t ++ (encode u ++ w)) ≡ some (t, encode u ++ w) → rec (encode u ++ w) ≡ some (u, w) → two_in rec make ((encode t ++ encode u) ++ w) ≡ some (make t u, w)
 two_back rec make t u w a b =

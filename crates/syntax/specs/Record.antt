@@ -1,16 +1,19 @@
 -- The record of a tree: what a controller is sent. Assumes nothing.
-use Rattle.std.specs.Prelude.{true, false, List, [], ◌∷◌, ◌++◌, ℤ, length, ℕ, ◌+◌, ◌/◌, ◌%◌}
-use Rattle.std.specs.Int.{w32}
-use Rattle.std.proofs.Common.{of_z}
+use Rattle.std.specs.Prelude.{true, false, List, [], ◌∷◌, ◌++◌, ℤ, pos, negsuc, length, ℕ, ◌+◌, ◌-◌, ◌/◌, ◌%◌}
 use Rattle.syntax.specs.Tree.{Tree, number, truth, variable, function, application, let_in, sum, at_most, if_else}
 
 -- two bytes, the higher first
 abbrev pub two_bytes : ℕ → List ℕ
 two_bytes n = (n / 256 % 256) ∷ (n % 256) ∷ []
 
--- four bytes of a number's two's complement (`of_z w32`), the highest first
+-- the two's complement of a number in 32 bits: a number below zero has 2^32 added to it. `negsuc n` is -1 - n.
+abbrev pub complement : ℤ → ℕ
+complement (pos n) = n
+complement (negsuc n) = 4294967295 - n
+
+-- the four bytes of a number's two's complement, the highest first
 abbrev pub four_bytes : ℤ → List ℕ
-four_bytes k = (of_z w32 k / 16777216 % 256) ∷ (of_z w32 k / 65536 % 256) ∷ (of_z w32 k / 256 % 256) ∷ (of_z w32 k % 256) ∷ []
+four_bytes k = (complement k / 16777216 % 256) ∷ (complement k / 65536 % 256) ∷ (complement k / 256 % 256) ∷ (complement k % 256) ∷ []
 
 -- a node's kind byte with what follows it, then its children from left to right
 abbrev pub encode : Tree → List ℕ

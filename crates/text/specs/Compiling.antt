@@ -1,20 +1,12 @@
--- What compile promises. Assumes nothing.
+-- From a tree that was read to its record in the buffer. It serves functions inside; what compile promises does not
+-- mention it. Assumes nothing.
 use Rattle.std.specs.Prelude.{◌≡◌, ℕ, ◌<◌, ◌≤◌, min, ◌⊎◌, List, ◌++◌, length, drop, Ok, Err, Result}
 use Rattle.syntax.specs.Tree.{Tree, nodes}
 use Rattle.syntax.specs.Record.{encode, record_of}
-use Rattle.grammar.specs.Token.{Name}
-use Rattle.grammar.specs.Verdict.{Verdict, refused, compiled}
 use Rattle.text.specs.declared.fault.CompileFault.{CompileFault}
 use Rattle.text.specs.declared.fault.CompileFault.TheVariants.{TooManyNodes, NoRoom}
 use Rattle.nodes.specs.declared.table.Table.{Table}
 use Rattle.nodes.specs.Nodes.{Holds, count}
-use Rattle.text.specs.Faults.{number, place}
-
--- The verdict on the text, with its number and place. A record stands at the front of the buffer, and
--- behind it what was there; a refusal leaves the buffer.
-abbrev pub Compiled : List ℕ → List Name → List ℕ → List ℕ → Result ℕ CompileFault → Type 0
-Compiled s book before after (Ok n) = (bytes : List ℕ) × Verdict book s (length before) (compiled bytes) × (n ≡ length bytes) × (after ≡ bytes ++ drop n before)
-Compiled s book before after (Err f) = Verdict book s (length before) (refused (number f) (place f)) × (after ≡ before)
 
 -- a table holds the tree at its root, as far as it has room
 pub record Held (table : Table) (t : Tree) (root : ℕ) : Type 0 where

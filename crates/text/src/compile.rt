@@ -1,8 +1,11 @@
 //! From a text to its record.
-ghost use Rattle.std.specs.Prelude.{◌≡◌, ◌≤◌, length, nat_le, nat_lt};
+ghost use Rattle.std.specs.Prelude.{◌≡◌, ◌≤◌, length, take, nat_le, nat_lt, IfOk, IfErr};
 ghost use Rattle.syntax.specs.Tree.{Tree};
 ghost use Rattle.book.specs.Books.{names};
-ghost use Rattle.text.specs.Compiling.{Compiled, Held, Recorded};
+ghost use Rattle.grammar.specs.Verdict.{Verdict, compiled, refused};
+ghost use Rattle.syntax.specs.Buffers.{OnlyFront};
+ghost use Rattle.text.specs.Compiling.{Held, Recorded};
+ghost use Rattle.text.specs.Faults.{number, place};
 
 use crate::fault::CompileFault;
 use crate::parser::Parser;
@@ -22,7 +25,9 @@ fn is_too_long(text: &[u8]) -> bool
 ///
 /// A refusal leaves `out` as it was, and a success writes nothing behind the record.
 pub fn compile(text: &[u8], book: &Book, out: &mut [u8]) -> Result<usize, CompileFault>
-    ensures { Compiled text.now (names book.now) out.old out.new result }
+    ensures ok { IfOk result (λ count. Verdict (names book.now) text.now (length out.old) (compiled (take count out.new))) }
+    ensures err { IfErr result (λ fault. Verdict (names book.now) text.now (length out.old) (refused (number fault) (place fault))) }
+    ensures buffer { OnlyFront out.old out.new result }
 {
     if is_too_long(text) {
         return Err(CompileFault::TooLong);

@@ -151,7 +151,8 @@ impl<'a> Parser<'a> {
         Ok(self.table.push(Node::IfElse(condition, then, otherwise)))
     }
 
-    /// An expression with one name more in force. The guard closes the name on every way out.
+    /// An expression with one name more in force. The guard lives while the body is read, and closes the name on every way
+    /// out, `?` included.
     #[cycle(application_atom_body_comparison_expr_function_if_else_let_in_sum)]
     fn body(&mut self, scope: &mut Scope<'a>, name: &'a [u8]) -> Result<u16, CompileFault>
         requires { 3 * array_vec_len scope.old.names + 3 ≤ self.old.current.place }
@@ -161,7 +162,8 @@ impl<'a> Parser<'a> {
         let before = scope.names.len();
         scope.put(name);
         let opened = Opened { scope, before };
-        self.expr(opened.scope)
+        let root = self.expr(opened.scope)?;
+        Ok(root)
     }
 
     /// `sum`, or `sum <= sum`

@@ -19,8 +19,8 @@ pub(crate) struct Scope<'a> {
     pub(crate) names: ArrayVec<&'a [u8], MOST_OPEN>,
 }
 
-/// A name is open as long as this guard lives: on every way out of a body the count of open names
-/// goes back to what it was before.
+/// A name is open as long as this guard lives: on every way out of a body, a `?` while it lives included, the count of
+/// open names goes back to what it was before.
 pub(crate) struct Opened<'s, 'a> {
     pub(crate) scope: &'s mut Scope<'a>,
     pub(crate) before: usize,

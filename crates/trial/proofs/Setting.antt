@@ -150,14 +150,14 @@ module _ (s : List ℕ) (book : List Name) (before after : Lent) where
       TableLeft given before.first after.first (Err f)
   refused_first (Text f) up = ap (λ m. m.first) up.1
   refused_first (Rule f) up =
-      λ bytes c. subst (λ x. Wiped x f before.first after.first) (compiled_once up.0 bytes up.1.verdict c) up.2.3
+      λ bytes c. subst (λ x. Wiped x (Err f) before.first after.first) (compiled_once up.0 bytes up.1.verdict c) up.2.3
   refused_first (Run f) up = absurd up
 
   pub refused_second : (f : TrialFault) → SetUp s book before after (Err f) →
       TableLeft given before.second after.second (Err f)
   refused_second (Text f) up = ap (λ m. m.second) up.1
   refused_second (Rule f) up =
-      λ bytes c. subst (λ x. Wiped x f before.second after.second) (compiled_once up.0 bytes up.1.verdict c) up.2.4
+      λ bytes c. subst (λ x. Wiped x (Err f) before.second after.second) (compiled_once up.0 bytes up.1.verdict c) up.2.4
   refused_second (Run f) up = absurd up
 
   -- ── compiled and accepted ──

@@ -4,7 +4,11 @@ use Rattle.grammar.specs.Token.{Name}
 use Rattle.grammar.specs.Verdict.{Verdict, compiled, refused}
 use Rattle.record.specs.declared.received.Received.{Received}
 use Rattle.text.specs.Faults.{number, place}
-use Rattle.typing.specs.Accepting.{Accepted}
+use Rattle.syntax.specs.Tree.{Tree}
+use Rattle.typing.specs.Accepting.{IsRule, Wiped, cleared}
+use Rattle.typing.specs.Faults.{number_of, place_of}
+use Rattle.typing.specs.Judging.{Judgement, accepted, worked}
+use Rattle.typing.specs.Judging as rule
 use Rattle.typing.specs.declared.fault.AcceptFault.{AcceptFault}
 use Rattle.trial.specs.declared.fault.TrialFault.{TrialFault}
 use Rattle.trial.specs.declared.fault.TrialFault.TheVariants.{Text, Rule, Run}
@@ -30,8 +34,22 @@ pub record IsCompiled (s : List ℕ) (book : List Name) (before after : List ℕ
 
 -- what accept makes of these bytes
 abbrev pub AcceptedFrom : List ℕ → Lent → Lent → Result ℕ AcceptFault → Type 0
-AcceptedFrom bytes before after answer =
-    Accepted bytes before.first before.second before.types before.place after.first after.second after.types after.place answer
+AcceptedFrom bytes before after (Ok n) =
+    (r : ℕ) ×
+    (t : Tree) ×
+    (w : List ℕ) ×
+    Judgement bytes (length before.first) (length before.second) (length before.types) (accepted r t w) ×
+    IsRule after.place r t ×
+    (n ≡ length w) ×
+    (after.types ≡ w ++ drop n before.types) ×
+    (after.first ≡ cleared (worked t) before.first) ×
+    (after.second ≡ cleared (worked t) before.second)
+AcceptedFrom bytes before after (Err f) =
+    Judgement bytes (length before.first) (length before.second) (length before.types) (rule.refused (number_of f) (place_of f)) ×
+    (after.place ≡ before.place) ×
+    (after.types ≡ before.types) ×
+    Wiped bytes (Err f) before.first after.first ×
+    Wiped bytes (Err f) before.second after.second
 
 abbrev pub SetUp : List ℕ → List Name → Lent → Lent → Result Written TrialFault → Type 0
 SetUp s book before after (Err (Text f)) =

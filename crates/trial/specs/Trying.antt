@@ -66,7 +66,7 @@ RecordLeft a before after (Ok done) = (bytes : List ℕ) → Compiles a bytes �
 -- A work table: as it was where the text is refused, else as accept leaves it.
 abbrev pub TableLeft : Asked → List ℕ → List ℕ → Result Success TrialFault → Type 0
 TableLeft a before after (Err (Text f)) = after ≡ before
-TableLeft a before after (Err (Rule f)) = (bytes : List ℕ) → Compiles a bytes → Wiped bytes f before after
+TableLeft a before after (Err (Rule f)) = (bytes : List ℕ) → Compiles a bytes → Wiped bytes (Err f) before after
 TableLeft a before after (Err (Run f)) =
     (r : ℕ) (t : Tree) (w : List ℕ) → Accepts a r t w → after ≡ cleared (worked t) before
 TableLeft a before after (Ok done) =

@@ -4,8 +4,8 @@ use Rattle.lexer.proofs.Keywords.{word_tested, tested_four, tested_five}
 use Rattle.lexer.proofs.start.word_token.Goals as goal
 use Rattle.lexer.proofs.start.word_token.Goals.{in_default-via-then-word-lt2, in_default-via-else-word-lt2+then-word-lt3+in-105+in_default-1, in_default-via-else-word-lt2+then-word-lt3+in_default-1, in_default-via-else-word-lt2+else-word-lt3+then-word-lt4+in-102+in-117+in_default-1, in_default-via-else-word-lt2+else-word-lt3+then-word-lt4+in-102+in_default-1, in_default-via-else-word-lt2+else-word-lt3+then-word-lt4+in-108+in-101+in_default-1, in_default-via-else-word-lt2+else-word-lt3+then-word-lt4+in-108+in_default-1, in_default-via-else-word-lt2+else-word-lt3+then-word-lt4+in_default-1, in_default-via-else-word-lt2+else-word-lt3+else-word-lt4+then-word-lt5+in-116+in-104+in-101+in_default-1, in_default-via-else-word-lt2+else-word-lt3+else-word-lt4+then-word-lt5+in-116+in-104+in_default-1, in_default-via-else-word-lt2+else-word-lt3+else-word-lt4+then-word-lt5+in-116+in-114+in-117+in_default-1, in_default-via-else-word-lt2+else-word-lt3+else-word-lt4+then-word-lt5+in-116+in-114+in_default-1, in_default-via-else-word-lt2+else-word-lt3+else-word-lt4+then-word-lt5+in-116+in_default-1, in_default-via-else-word-lt2+else-word-lt3+else-word-lt4+then-word-lt5+in-101+in-108+in-115+in_default-1, in_default-via-else-word-lt2+else-word-lt3+else-word-lt4+then-word-lt5+in-101+in-108+in_default-1, in_default-via-else-word-lt2+else-word-lt3+else-word-lt4+then-word-lt5+in-101+in_default-1, in_default-via-else-word-lt2+else-word-lt3+else-word-lt4+then-word-lt5+in_default-1, in_default-via-else-word-lt2+else-word-lt3+else-word-lt4+else-word-lt5+then-word-lt6+in-102+in-97+in-108+in-115+in_default-1, in_default-via-else-word-lt2+else-word-lt3+else-word-lt4+else-word-lt5+then-word-lt6+in-102+in-97+in-108+in_default-1, in_default-via-else-word-lt2+else-word-lt3+else-word-lt4+else-word-lt5+then-word-lt6+in-102+in-97+in_default-1, in_default-via-else-word-lt2+else-word-lt3+else-word-lt4+else-word-lt5+then-word-lt6+in-102+in_default-1, in_default-via-else-word-lt2+else-word-lt3+else-word-lt4+else-word-lt5+then-word-lt6+in_default-1, in_default-via-else-word-lt2+else-word-lt3+else-word-lt4+else-word-lt5+else-word-lt6}
 
-pub returns-in_default : goal.returns-in_default
-returns-in_default c =
+pub returns-in_default-clause-shown : goal.returns-in_default-clause-shown
+returns-in_default-clause-shown c =
     rw (word_tested c.args.word.now) (elim c.in_default.branch [
       | in_default-via-then-word-lt2 w ↦ grind (arith, nat_tests)
       | in_default-via-else-word-lt2+then-word-lt3+in-105+in_default-1 w ↦ grind (arith, nat_tests)

@@ -2,7 +2,7 @@ use Rattle.std.proofs.Common.{◌≡◌, ◌+◌, ◌<◌, length, get_or, sym, 
 use Rattle.grammar.specs.declared.Mark.TheVariants.{Arrow}
 use Rattle.grammar.specs.Token.{mark}
 use Rattle.grammar.proofs.Lexing.{longest_two}
-use Rattle.lexer.proofs.Lexemes.{placed, longest_negative, no_minus}
+use Rattle.lexer.proofs.Lexemes.{sign_at, number_at, longest_negative, no_minus}
 use Rattle.lexer.proofs.start.Start.minus.Goals as goal
 use Rattle.lexer.proofs.start.Start.minus.Goals.{in_default-via-in-Some+else-has, in_default-via-in_default}
 
@@ -10,7 +10,7 @@ pub returns-then-followed_by : goal.returns-then-followed_by
 returns-then-followed_by c =
     let next = c.if-followed_by.ensures in
     let made = c.sign.ensures in
-    (made.0, placed _ _ _ _ c.sign.result made.1 (longest_two c.args.self.now.text.now c.args.self.now.place 45 62 (mark Arrow) next.0 c.requires next.1 refl (λ _ _. refl)))
+    sign_at _ _ c.sign.result made.place _ _ made.stop made.shown (longest_two c.args.self.now.text.now c.args.self.now.place 45 62 (mark Arrow) next.0 c.requires next.1 refl (λ _ _. refl))
 
 pub returns-in-Some : goal.returns-in-Some
 returns-in-Some c =
@@ -19,7 +19,7 @@ returns-in-Some c =
     let place = c.args.self.now.place in
     let more : place + 1 < length s = search (rules, tests) in
     let is : c.in-Some.byte.now ≡ get_or s (place + 1) 0 = search (rules, tests) in
-    (made.0, placed _ _ _ _ c.number.result (refl, made.1.1) (longest_negative s place _ more c.requires (rw (sym is) (sym c.if-has.ensures)) made.1.0))
+    number_at _ _ c.number.result made.place made.shown made.part (longest_negative s place _ more c.requires (rw (sym is) (sym c.if-has.ensures)) made.run)
 
 pub returns-in_default : goal.returns-in_default
 returns-in_default c = (

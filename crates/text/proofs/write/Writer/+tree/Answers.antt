@@ -1,6 +1,7 @@
 use Rattle.std.proofs.Common.{◌≡◌, ◌≤◌, length, sym, ap, ◌∙◌, subst, arith, w32, to_z, of_z, rules}
 use Rattle.syntax.specs.Record.{two_bytes, four_bytes}
 use Rattle.syntax.specs.Kinds.{byte_of, kind_of}
+use Rattle.syntax.proofs.Complement.{bytes_of, four_bytes_are}
 use Rattle.syntax.specs.declared.node.Node.TheVariants.{Number, Variable}
 use Rattle.nodes.specs.Nodes.{at}
 use Rattle.text.specs.Writing.{Put}
@@ -20,7 +21,7 @@ put-requires-in-Number t c =
     let own : c.from-2.result ≡ byte_of (kind_of (at ns i)) = c.from-2.ensures ∙ ap byte_of c.kind.ensures ∙ ap (λ n. byte_of (kind_of n)) (sym here) in
     let k = c.in-Number.number in
     let z : to_z w32 (of_z w32 k) ≡ k = search rules in
-    let bytes : c.to_be_bytes.result ≡ four_bytes k = c.to_be_bytes.ensures ∙ ap four_bytes z in
+    let bytes : c.to_be_bytes.result ≡ four_bytes k = c.to_be_bytes.ensures ∙ ap (λ x. bytes_of (of_z w32 x)) z ∙ four_bytes_are k in
     let fits = leaf_fits ns i c.from-2.result own w w₁ c.put.ensures.put (Number k) (four_bytes k) (here ∙ c.in-Number.is) (λ u s. s) c.requires in
     omega (arith, fits, ap length bytes)
 
@@ -123,7 +124,7 @@ returns-in-Number-clause-wrote t c =
     let le : w.at ≤ length w.out.now = omega (arith, c.requires.3) in
     let k = c.in-Number.number in
     let z : to_z w32 (of_z w32 k) ≡ k = search rules in
-    let bytes : c.to_be_bytes.result ≡ four_bytes k = c.to_be_bytes.ensures ∙ ap four_bytes z in
+    let bytes : c.to_be_bytes.result ≡ four_bytes k = c.to_be_bytes.ensures ∙ ap (λ x. bytes_of (of_z w32 x)) z ∙ four_bytes_are k in
     leaf_wrote ns i c.from-2.result own w w₁ c.put.ensures.put c.put-in-Number.new.self (Number k) (four_bytes k) (here ∙ c.in-Number.is) (λ u s. s) le (subst (Put w₁ c.put-in-Number.new.self) bytes c.put-in-Number.ensures.put)
 
 pub returns-in-Truth-clause-wrote : goal.returns-in-Truth-clause-wrote

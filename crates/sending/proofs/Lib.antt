@@ -1,0 +1,4 @@
+pub mod Ranges
+pub mod Numbers
+pub mod Bound
+pub mod Reading

@@ -1,0 +1,3 @@
+pub mod Complement
+pub mod Lengths
+pub mod Buffers
