@@ -2,6 +2,8 @@
 use crate::counted::Counted;
 use law::{Call, Played, Reply, Turn};
 use run::{Found, Report, RunFault, State};
+use serde_json::{Value, json};
+use std::alloc::{AllocError, Global};
 use std::fmt;
 use store::contract::Store;
 
@@ -9,6 +11,7 @@ use store::contract::Store;
 #[derive(Drop)]
 pub(crate) struct Outcome<'a> {
     turns: Vec<Turn<'a>>,
+    slots: Vec<Slot>,
     ending: Ending,
 }
 
@@ -25,18 +28,20 @@ pub(crate) struct Ending {
 impl<'a> Outcome<'a> {
     /// What is left of a run, over a store whose whole room is known.
     pub(crate) fn of<S: Store + Drop>(
+        heap: Global,
         played: Played<S>,
         turns: Vec<Turn<'a>>,
         whole: u32,
         unit: &'static str,
-    ) -> Outcome<'a> {
+    ) -> Result<Outcome<'a>, AllocError> {
         let Played {
             rule: _,
             store,
             report,
         } = played;
         let used = whole.saturating_sub(store.free());
-        Outcome {
+        Ok(Outcome {
+            slots: slots_of(heap, turns.as_slice())?,
             turns,
             ending: Ending {
                 report,
@@ -44,7 +49,7 @@ impl<'a> Outcome<'a> {
                 whole,
                 unit,
             },
-        }
+        })
     }
 
     /// Whether another run was told the same at each call.
@@ -58,14 +63,65 @@ impl<'a> Outcome<'a> {
     }
 
     /// A line for each slot.
-    pub(crate) fn slots(&self) -> Slots<'_, 'a> {
-        Slots(self.turns.as_slice())
+    pub(crate) fn slots(&self) -> SlotLines<'_> {
+        SlotLines(self.slots.as_slice())
     }
+
+    /// The same for a tool.
+    pub(crate) fn object(&self, heap: Global, file: &str) -> Result<Value, AllocError> {
+        let run = self.ending.object(heap)?;
+        let slots: Vec<Value> = self
+            .slots
+            .iter()
+            .map(|slot| slot.object(heap))
+            .try_collect(heap)?;
+        json!(in heap; {"file": file, "run": run, "slots": slots})
+    }
+}
+
+/// The slots of a run: each is a grant, and the ask behind it.
+fn slots_of(heap: Global, turns: &[Turn]) -> Result<Vec<Slot>, AllocError> {
+    let mut slots = Vec::new(heap);
+    for (grant, ask) in turns.iter().zip(turns.iter().skip(1)) {
+        if let (Call::Grant(steps), Reply::Told(report)) = (grant.call, ask.reply) {
+            slots.push(Slot {
+                steps,
+                reply: grant.reply,
+                report,
+            })?;
+        }
+    }
+    Ok(slots)
 }
 
 impl fmt::Display for Outcome<'_> {
     fn fmt<W: fmt::Write>(&self, f: &mut fmt::Formatter<W>) -> fmt::Result {
         write!(f, "{}", self.ending)
+    }
+}
+
+impl Ending {
+    /// What a run told, as an object.
+    pub(crate) fn object(&self, heap: Global) -> Result<Value, AllocError> {
+        let Report { count, state } = self.report;
+        let (answer, node) = match state {
+            State::Waiting => (Value::Null, Value::Null),
+            State::Done(Found::Number(number)) => (Value::from(number), Value::Null),
+            State::Done(Found::Truth(truth)) => (Value::from(truth), Value::Null),
+            State::Done(Found::Function { node })
+            | State::Range { node, .. }
+            | State::NoStore { node }
+            | State::NoStack { node } => (Value::Null, Value::from(node)),
+        };
+        json!(in heap; {
+            "outcome": outcome_of(state),
+            "answer": answer,
+            "node": node,
+            "steps": count,
+            "used": self.used,
+            "room": self.whole,
+            "unit": self.unit
+        })
     }
 }
 
@@ -133,29 +189,16 @@ impl fmt::Display for Standing {
     }
 }
 
-/// The calls of a run, for a line on each slot.
+/// The slots of a run, a line for each.
 #[derive(Clone, Copy)]
-pub(crate) struct Slots<'s, 'a>(&'s [Turn<'a>]);
+pub(crate) struct SlotLines<'s>(&'s [Slot]);
 
-impl fmt::Display for Slots<'_, '_> {
-    /// A slot is a grant and the ask behind it.
+impl fmt::Display for SlotLines<'_> {
     fn fmt<W: fmt::Write>(&self, f: &mut fmt::Formatter<W>) -> fmt::Result {
         let mut order = 0usize;
-        for (grant, ask) in self.0.iter().zip(self.0.iter().skip(1)) {
-            let (Call::Grant(steps), Reply::Told(report)) = (grant.call, ask.reply) else {
-                continue;
-            };
+        for slot in self.0 {
             order = order.saturating_add(1);
-            let reply = grant.reply;
-            writeln!(
-                f,
-                "slot {order}: {}",
-                Slot {
-                    steps,
-                    reply,
-                    report
-                }
-            )?;
+            writeln!(f, "slot {order}: {slot}")?;
         }
         Ok(())
     }
@@ -167,6 +210,33 @@ struct Slot {
     steps: u32,
     reply: Reply,
     report: Report,
+}
+
+impl Slot {
+    /// The same for a tool.
+    fn object(&self, heap: Global) -> Result<Value, AllocError> {
+        let refused = match self.reply {
+            Reply::Done | Reply::Told(_) => Value::Null,
+            Reply::Refused(fault) => Value::from(fault.number()),
+        };
+        json!(in heap; {
+            "granted": self.steps,
+            "refused": refused,
+            "steps": self.report.count,
+            "outcome": outcome_of(self.report.state)
+        })
+    }
+}
+
+/// The outcome of a run in a word.
+fn outcome_of(state: State) -> &'static str {
+    match state {
+        State::Waiting => "waiting",
+        State::Done(_) => "done",
+        State::Range { .. } => "range",
+        State::NoStore { .. } => "no store",
+        State::NoStack { .. } => "no stack",
+    }
 }
 
 impl fmt::Display for Slot {
