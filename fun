@@ -94,7 +94,7 @@ for word in "$@"; do
     fi
 done
 # shellcheck disable=SC2086
-(cd "$crate" && rt try $lent -- "$@") >"$told"
-grep -v -E '^(checked: |run=|rt: )' "$told"
+(cd "$crate" && rt try $lent -- "$@") 2>"$told"
+grep -v -E '^(checked: |run=|rt: )' "$told" >&2
 ended=$(sed -n 's/^checked: ended status=\([0-9]*\)$/\1/p' "$told" | tail -n 1)
 exit "${ended:-1}"

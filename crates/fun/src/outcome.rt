@@ -11,7 +11,6 @@ use store::contract::Store;
 #[derive(Drop)]
 pub(crate) struct Outcome<'a> {
     turns: Vec<Turn<'a>>,
-    slots: Vec<Slot>,
     ending: Ending,
 }
 
@@ -28,20 +27,18 @@ pub(crate) struct Ending {
 impl<'a> Outcome<'a> {
     /// What is left of a run, over a store whose whole room is known.
     pub(crate) fn of<S: Store + Drop>(
-        heap: Global,
         played: Played<S>,
         turns: Vec<Turn<'a>>,
         whole: u32,
         unit: &'static str,
-    ) -> Result<Outcome<'a>, AllocError> {
+    ) -> Outcome<'a> {
         let Played {
             rule: _,
             store,
             report,
         } = played;
         let used = whole.saturating_sub(store.free());
-        Ok(Outcome {
-            slots: slots_of(heap, turns.as_slice())?,
+        Outcome {
             turns,
             ending: Ending {
                 report,
@@ -49,7 +46,7 @@ impl<'a> Outcome<'a> {
                 whole,
                 unit,
             },
-        })
+        }
     }
 
     /// Whether another run was told the same at each call.
@@ -62,36 +59,27 @@ impl<'a> Outcome<'a> {
                 .all(|(one, two)| one.reply == two.reply)
     }
 
-    /// A line for each slot.
-    pub(crate) fn slots(&self) -> SlotLines<'_> {
-        SlotLines(self.slots.as_slice())
+    /// The slots of the run: each is a grant, and the ask behind it.
+    pub(crate) fn slots(&self, heap: Global) -> Result<Slots, AllocError> {
+        let mut slots = Vec::new(heap);
+        for (grant, ask) in self.turns.iter().zip(self.turns.iter().skip(1)) {
+            if let (Call::Grant(steps), Reply::Told(report)) = (grant.call, ask.reply) {
+                slots.push(Slot {
+                    steps,
+                    reply: grant.reply,
+                    report,
+                })?;
+            }
+        }
+        Ok(Slots(slots))
     }
 
-    /// The same for a tool.
+    /// What the run did, for a tool.
     pub(crate) fn object(&self, heap: Global, file: &str) -> Result<Value, AllocError> {
         let run = self.ending.object(heap)?;
-        let slots: Vec<Value> = self
-            .slots
-            .iter()
-            .map(|slot| slot.object(heap))
-            .try_collect(heap)?;
+        let slots = self.slots(heap)?.objects(heap)?;
         json!(in heap; {"file": file, "run": run, "slots": slots})
     }
-}
-
-/// The slots of a run: each is a grant, and the ask behind it.
-fn slots_of(heap: Global, turns: &[Turn]) -> Result<Vec<Slot>, AllocError> {
-    let mut slots = Vec::new(heap);
-    for (grant, ask) in turns.iter().zip(turns.iter().skip(1)) {
-        if let (Call::Grant(steps), Reply::Told(report)) = (grant.call, ask.reply) {
-            slots.push(Slot {
-                steps,
-                reply: grant.reply,
-                report,
-            })?;
-        }
-    }
-    Ok(slots)
 }
 
 impl fmt::Display for Outcome<'_> {
@@ -189,14 +177,24 @@ impl fmt::Display for Standing {
     }
 }
 
-/// The slots of a run, a line for each.
-#[derive(Clone, Copy)]
-pub(crate) struct SlotLines<'s>(&'s [Slot]);
+/// The slots of a run, shown a line for each.
+#[derive(Drop)]
+pub(crate) struct Slots(Vec<Slot>);
 
-impl fmt::Display for SlotLines<'_> {
+impl Slots {
+    fn objects(&self, heap: Global) -> Result<Vec<Value>, AllocError> {
+        let mut objects = Vec::new(heap);
+        for slot in &self.0 {
+            objects.push(slot.object(heap)?)?;
+        }
+        Ok(objects)
+    }
+}
+
+impl fmt::Display for Slots {
     fn fmt<W: fmt::Write>(&self, f: &mut fmt::Formatter<W>) -> fmt::Result {
         let mut order = 0usize;
-        for slot in self.0 {
+        for slot in &self.0 {
             order = order.saturating_add(1);
             writeln!(f, "slot {order}: {slot}")?;
         }

@@ -1,7 +1,7 @@
 //! What the words behind `run` and `trial` ask for.
 use crate::failure::Failure;
-use messages::near::nearest;
 use clap::ArgMatches;
+use messages::near::nearest;
 use std::alloc::Global;
 
 /// The steps that are granted where a call says nothing of them.

@@ -126,9 +126,9 @@ fn over<S: BareStore + Store<Elem = Value> + Drop>(
             let traced = single_steps(heap, &plan, report)?;
             let mut turns = traced.turns(heap)?;
             let played = play(rule, store, &mut turns);
-            told(shell, attempt, &Outcome::of(heap, played, turns, whole, unit)?)
+            told(shell, attempt, &Outcome::of(played, turns, whole, unit))
         }
-        _ => told(shell, attempt, &Outcome::of(heap, played, turns, whole, unit)?),
+        _ => told(shell, attempt, &Outcome::of(played, turns, whole, unit)),
     }
 }
 
@@ -183,8 +183,8 @@ fn over_both(
     let mut turns = plan.turns(heap)?;
     let mut other_turns = plan.turns(heap)?;
     let Both { one, two } = play_two(rule, linked, &mut turns, other, flat, &mut other_turns);
-    let one = Outcome::of(heap, one, turns, cells, "cell")?;
-    let two = Outcome::of(heap, two, other_turns, slots, "slot")?;
+    let one = Outcome::of(one, turns, cells, "cell");
+    let two = Outcome::of(two, other_turns, slots, "slot");
     let same = one.tells_the_same(&two);
     if shell.json {
         let linked = one.object(heap, attempt.file)?;
@@ -218,7 +218,7 @@ fn told(shell: Shell, attempt: &Attempt, outcome: &Outcome) -> Result<String, Al
     match &attempt.grants {
         Grants::Once(_) if !attempt.trace => format!(in heap; "{outcome}"),
         _ => {
-            let slots = outcome.slots();
+            let slots = outcome.slots(heap)?;
             format!(in heap; "{outcome}{slots}")
         }
     }
