@@ -1,1 +1,2 @@
+# readings: coil
 if 80 <= coil then 1 else 0

@@ -15,7 +15,7 @@ pub(crate) fn answer(heap: Global, mut fields: Fields) -> Result<String, Trouble
     let book = book_of(heap, names)?;
     let mut buffer = vec![in heap; 0u8; size]?;
     let count = compile(text.as_slice(), &book, &mut buffer)?;
-    let record = hexadecimal::show(heap, &buffer[..count])?;
+    let record = hex::encode(heap, &buffer[..count])?;
     Ok(format!(in heap; "ok {count} {record}")?)
 }
 

@@ -73,7 +73,9 @@ pub(crate) fn bytes(heap: Global, digits: &str) -> Result<Vec<u8>, Trouble> {
     let Some(digits) = given(digits) else {
         return Ok(Vec::new(heap));
     };
-    hexadecimal::read(heap, digits.as_bytes())?.ok_or(Trouble::Unreadable(
-        "bytes in hexadecimal were expected",
-    ))
+    match hex::decode(heap, digits.as_bytes()) {
+        Ok(bytes) => Ok(bytes),
+        Err(FromHexError::OutOfMemory) => Err(Trouble::NoMemory(AllocError)),
+        Err(_) => Err(Trouble::Unreadable("bytes in hexadecimal were expected")),
+    }
 }

@@ -7,6 +7,7 @@ use Rattle.grammar.specs.Spelling.{token}
 use Rattle.lexer.specs.Shown.{named}
 use Rattle.grammar.specs.Token as plain
 use Rattle.book.specs.declared.fault.NameFault.{NameFault}
+use Rattle.book.specs.declared.fault.NameFault.TheVariants.{Full, NoName, TooLong, Taken}
 use Rattle.book.specs.declared.book.Book.{Book}
 use Rattle.book.specs.Spelled.{spelled}
 
@@ -27,7 +28,14 @@ absent (some d) = false
 abbrev pub takes : List plain.Name → plain.Name → Bool
 takes xs x = named (token x) && (nat_le (length x) 32 && (nat_lt (length xs) 8 && absent (distance xs x)))
 
+-- why it does not take it, asked in this order
+abbrev pub Why : List plain.Name → plain.Name → NameFault → Type 0
+Why xs x Full = nat_lt (length xs) 8 ≡ false
+Why xs x NoName = (nat_lt (length xs) 8 ≡ true) × (named (token x) ≡ false)
+Why xs x TooLong = (nat_lt (length xs) 8 ≡ true) × (named (token x) ≡ true) × (nat_le (length x) 32 ≡ false)
+Why xs x Taken = (nat_lt (length xs) 8 ≡ true) × (named (token x) ≡ true) × (nat_le (length x) 32 ≡ true) × (absent (distance xs x) ≡ false)
+
 -- a name that was taken stands last; any other leaves the book
 abbrev pub Added : List plain.Name → List plain.Name → plain.Name → Result (Unit {0}) NameFault → Type 0
 Added before after x (Ok u) = (takes before x ≡ true) × (after ≡ before ++ x ∷ [])
-Added before after x (Err f) = (takes before x ≡ false) × (after ≡ before)
+Added before after x (Err f) = Why before x f × (after ≡ before)

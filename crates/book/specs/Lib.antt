@@ -1,2 +1,3 @@
 pub mod Spelled
+pub mod Faults
 pub mod Books

@@ -38,10 +38,17 @@ impl Book {
     pub fn add(&mut self, name: &[u8]) -> Result<(), NameFault>
         ensures { Added (names self.old) (names self.new) name.now result }
     {
-        if self.names.is_full() || !is_name(name) || self.find(name).is_some() {
-            return Err(NameFault);
+        if self.names.is_full() {
+            return Err(NameFault::Full);
         }
-        self.names.push(Name::try_from(name)?);
+        if !is_name(name) {
+            return Err(NameFault::NoName);
+        }
+        let own = Name::try_from(name)?;
+        if self.find(name).is_some() {
+            return Err(NameFault::Taken);
+        }
+        self.names.push(own);
         Ok(())
     }
 

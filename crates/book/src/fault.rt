@@ -1,22 +1,37 @@
 //! What the book refuses.
 ghost use Rattle.std.specs.Prelude.{◌≡◌};
 
-/// A name that a book does not take: refusal 53, at place 0.
+/// Why a book does not take a name: refusal 53, at place 0. A book asks in this order, and answers the first.
 #[derive(Clone, Copy, PartialEq, Eq, Debug)]
-pub struct NameFault;
+pub enum NameFault {
+    /// The book has 8 names.
+    Full,
+    /// It is no name.
+    NoName,
+    /// It is longer than 32 bytes.
+    TooLong,
+    /// The book has it.
+    Taken,
+}
 
 impl NameFault {
+    ghost use Rattle.book.specs.Faults.{number_of, place_of};
+
     /// The refusal's number.
-    pub fn number(&self) -> u8
-        ensures { result ≡ 53 }
+    pub fn number(self) -> u8
+        ensures { result ≡ number_of self }
     {
-        53
+        match self {
+            NameFault::Full | NameFault::NoName | NameFault::TooLong | NameFault::Taken => 53,
+        }
     }
 
     /// Its place, 0: a name has no text around it.
-    pub fn place(&self) -> usize
-        ensures { result ≡ 0 }
+    pub fn place(self) -> usize
+        ensures { result ≡ place_of self }
     {
-        0
+        match self {
+            NameFault::Full | NameFault::NoName | NameFault::TooLong | NameFault::Taken => 0,
+        }
     }
 }

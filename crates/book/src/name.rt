@@ -23,7 +23,7 @@ impl TryFrom<&[u8]> for Name {
     fn try_from(name: &[u8]) -> Result<Name, NameFault> {
         ArrayVec::try_from(name)
             .map(|bytes| Name { bytes })
-            .map_err(|_| NameFault)
+            .map_err(|_| NameFault::TooLong)
     }
 }
 

@@ -4,7 +4,7 @@ use mathlib.Core.Option.{Option, some, none}
 use Rattle.std.proofs.lemmas.Bool.Decides.{nat_tests}
 use Rattle.syntax.specs.Tree.{Tree, nodes}
 use Rattle.syntax.specs.Record.{record_of}
-use Rattle.hexadecimal.specs.Digits.{shown}
+use Rattle.figures.specs.Digits.{shown}
 use Rattle.grammar.specs.Token.{Name, Token, end}
 use Rattle.grammar.specs.Spelling.{blank, token, fit}
 use Rattle.grammar.specs.Reading.{part, Blanks, NoneBeyond, Next}

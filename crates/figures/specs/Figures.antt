@@ -2,7 +2,7 @@
 use Rattle.std.specs.Prelude.{◌≡◌, ℕ, List, [], ◌∷◌, length, codes, pos, negsuc, Err}
 use Rattle.syntax.specs.Tree.{Tree, number, sum}
 use Rattle.syntax.specs.Record.{record_of}
-use Rattle.hexadecimal.specs.Digits.{shown}
+use Rattle.figures.specs.Digits.{shown}
 use Rattle.grammar.specs.Token.{Name}
 use Rattle.grammar.specs.Verdict.{Means, Verdict, compiled}
 use Rattle.calculus.specs.Conditions.{Assignment, Meets}

@@ -1,49 +1,75 @@
 //! The commands, from the words of a call to what is printed.
-use crate::arguments::{Command, read_call};
+use crate::checking::CheckOptions;
+use crate::compiling::CompileOptions;
 use crate::explain::{KNOWN, explanation};
 use crate::failure::Failure;
-use crate::usage::USAGE;
+use crate::options::program;
+use crate::run_options::Attempt;
+use crate::shell::{Answer, Shell};
 use crate::{checking, compiling, running, trying};
+use clap::ArgMatches;
+use messages::paint::Paint;
 use std::alloc::Global;
 use std::env;
+use std::io::IsTerminal;
 
-/// Does what the words of the call ask for; answers what to print.
-pub(crate) fn run(rt: &HostRuntime) -> Result<String, Failure> {
+/// Does what the words of the call ask for.
+pub(crate) fn run(rt: &HostRuntime) -> Result<Answer, Failure> {
     let heap = rt.alloc();
     let words = words(rt)?;
-    match read_call(heap, words.as_slice())? {
-        Command::Help => Ok(String::from_str(heap, USAGE)?),
-        Command::Explain(number) => explain(heap, number),
-        Command::Compile(request) => compiling::compile(rt, &request),
-        Command::Check(origin) => checking::check(rt, &origin),
-        Command::CheckRecord(file) => checking::check_record(rt, file),
-        Command::Run(attempt) => running::run(rt, &attempt),
-        Command::Trial(attempt) => trying::try_out(rt, &attempt),
+    if words.len() < 2 {
+        let help = program(heap)?.render_help()?;
+        return Ok(Answer::plain(heap, help));
+    }
+    let matches = program(heap)?.try_get_matches_from(words.as_slice())?;
+    let Some((name, options)) = matches.subcommand() else {
+        let help = program(heap)?.render_help()?;
+        return Ok(Answer::plain(heap, help));
+    };
+    let shell = Shell {
+        rt,
+        paint: paint_of(rt, options),
+        json: name != "explain" && options.get_flag("json"),
+    };
+    match name {
+        "run" => running::run(shell, &Attempt::read(heap, options)?),
+        "trial" => trying::try_out(shell, &Attempt::read(heap, options)?),
+        "compile" => compiling::compile(shell, &CompileOptions::read(heap, options)?),
+        "check" => checking::check(shell, &CheckOptions::read(heap, options)?),
+        _ => explain(heap, options.get_str("number").unwrap_or("")),
     }
 }
 
-/// The words behind the program's own name.
+/// The words of the call, the program's own name first.
 fn words(rt: &HostRuntime) -> Result<Vec<String>, Failure> {
     let heap = rt.alloc();
-    let words = env::args(rt).map_err(|error| {
-        Failure::told(
+    match env::args(rt) {
+        Ok(words) => Ok(words.collect(heap)?),
+        Err(error) => Err(Failure::wrong_call(
             heap,
             &format_args!(
-                "error: cannot read the words of the call: {error}\n  = help: names and files are given as UTF-8\n"
+                "cannot read the words of the call: {error}; names and files are given as UTF-8"
             ),
-        )
-    })?;
-    Ok(words.skip(1).collect(heap)?)
+        )),
+    }
 }
 
-fn explain(heap: Global, number: &str) -> Result<String, Failure> {
-    let text = explanation(number).ok_or_else(|| {
-        Failure::told(
+/// The colours that a call asks for.
+fn paint_of(rt: &HostRuntime, options: &ArgMatches) -> Paint {
+    match options.get_str("color") {
+        Some("always") => Paint::COLORS,
+        Some("never") => Paint::PLAIN,
+        _ if rt.stderr().is_terminal() => Paint::COLORS,
+        _ => Paint::PLAIN,
+    }
+}
+
+fn explain(heap: Global, number: &str) -> Result<Answer, Failure> {
+    match explanation(number) {
+        Some(text) => Ok(Answer::plain(heap, String::from_str(heap, text)?)),
+        None => Err(Failure::wrong_call(
             heap,
-            &format_args!(
-                "error: there is no refusal `{number}`\n  = help: the refusals are {KNOWN}\n"
-            ),
-        )
-    })?;
-    Ok(String::from_str(heap, text)?)
+            &format_args!("there is no refusal `{number}`: the refusals are {KNOWN}"),
+        )),
+    }
 }

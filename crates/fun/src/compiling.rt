@@ -1,76 +1,155 @@
 //! The command `compile`, from the file to the record.
-use crate::arguments::Request;
+use crate::counted::Counted;
 use crate::failure::Failure;
+use crate::prepared::{Prepared, record_of};
+use crate::refusal::{Layer, Refusal};
+use crate::shell::{Answer, Shell};
 use crate::source;
 use crate::source::RULE;
-use book::book::Book;
-use messages::names::refused;
-use messages::rule_text::{Origin, RuleText};
+use clap::ArgMatches;
+use messages::file::{STANDARD_INPUT, TextFile};
+use serde_json::json;
 use std::alloc::Global;
 use std::fs;
+use syntax::limits::MOST_RECORD;
+use verdicts::verdict::{Accepted, Refused, verdict_on};
 use verdicts::walk::Walk;
 
-/// A rule's text and the names that it may use, as a call asks for them.
+/// A text to compile.
 #[derive(Drop)]
-pub(crate) struct Fetched {
-    book: Book,
-    text: Vec<u8>,
+pub(crate) struct CompileOptions<'a> {
+    file: &'a str,
+    names: Vec<&'a str>,
+    /// The file to write the record to, where it is not printed.
+    out: Option<&'a str>,
+    /// How many bytes the record may have.
+    room: usize,
+    /// Whether the record of a rule without a type is wanted too.
+    unchecked: bool,
 }
 
-impl Fetched {
-    pub(crate) fn from(rt: &HostRuntime, origin: &Origin) -> Result<Fetched, Failure> {
-        let book = book_of(rt.alloc(), origin.names.as_slice())?;
-        let text = source::read(rt, origin.file, RULE)?;
-        Ok(Fetched { book, text })
-    }
-
-    pub(crate) fn rule<'a, 'n>(&'a self, origin: &'a Origin<'n>) -> RuleText<'a, 'n> {
-        RuleText {
-            text: self.text.as_slice(),
-            book: &self.book,
-            origin,
-        }
+impl<'a> CompileOptions<'a> {
+    /// Reads what the options say. More room than a record can have is as good as enough.
+    pub(crate) fn read(
+        heap: Global,
+        matches: &ArgMatches<'a>,
+    ) -> Result<CompileOptions<'a>, Failure> {
+        Ok(CompileOptions {
+            file: matches.get_str("file").unwrap_or(STANDARD_INPUT),
+            names: matches
+                .get_strs("names")
+                .unwrap_or(&[])
+                .iter()
+                .copied()
+                .collect(heap)?,
+            out: matches.get_str("out"),
+            room: matches
+                .get_one::<usize>("room")
+                .unwrap_or(MOST_RECORD)
+                .min(MOST_RECORD),
+            unchecked: matches.get_flag("unchecked"),
+        })
     }
 }
 
 /// Compiles a text, and prints its record or writes it to a file.
-pub(crate) fn compile(rt: &HostRuntime, request: &Request) -> Result<String, Failure> {
-    let fetched = Fetched::from(rt, &request.origin)?;
-    let record = record_of(rt.alloc(), fetched.rule(&request.origin))?;
-    written(rt, request.out, record.as_slice())
-}
-
-/// The record of a text, or what is wrong with the text.
-pub(crate) fn record_of(heap: Global, rule: RuleText) -> Result<Vec<u8>, Failure> {
-    rule.record(heap, rule.origin.room)?.try_map_err(|fault| Ok(Failure::told(
-        heap,
-        &rule.refusal(heap, fault)?,
-    )))
-}
-
-/// Puts the names into a book, in their order.
-fn book_of(heap: Global, names: &[&str]) -> Result<Book, Failure> {
-    let mut book = Book::new();
-    for (at, name) in names.iter().enumerate() {
-        book.add(name.as_bytes()).try_map_err(|fault| Ok(Failure::told(
-            heap,
-            &refused(heap, fault, name, at)?,
-        )))?;
+pub(crate) fn compile(shell: Shell, asked: &CompileOptions) -> Result<Answer, Failure> {
+    let bytes = source::read(shell.rt, asked.file, RULE)?;
+    let prepared = Prepared::new(
+        shell,
+        asked.file,
+        bytes.as_slice(),
+        asked.names.as_slice(),
+        asked.room,
+    )?;
+    let rule = prepared.rule();
+    let record = record_of(shell, rule)?;
+    if !asked.unchecked {
+        accepted(shell, rule.file(), record.as_slice())?;
     }
-    Ok(book)
+    match asked.out {
+        Some(out) => written(shell, asked.file, out, record.as_slice()),
+        None => shown(shell, rule.file(), record.as_slice()),
+    }
 }
 
-/// Prints a record, or writes it to a file and says so.
-fn written(rt: &HostRuntime, out: Option<&str>, record: &[u8]) -> Result<String, Failure> {
-    let heap = rt.alloc();
-    let bytes = record.len();
-    let nodes = Walk::over(record).count();
-    let Some(file) = out else {
-        let shown = hexadecimal::show(heap, record)?;
-        return Ok(format!(in heap; "{shown}\n{bytes} bytes, {nodes} nodes\n")?);
-    };
-    fs::write(rt, file, record).map_err(|error| {
-        Failure::told(heap, &format_args!("error: cannot write {file}: {error}\n"))
-    })?;
-    Ok(format!(in heap; "{file}: {bytes} bytes, {nodes} nodes\n")?)
+/// What is told of the rule of a record that was made from a text, or why no controller accepts it.
+pub(crate) fn accepted(shell: Shell, file: TextFile, record: &[u8]) -> Result<Accepted, Failure> {
+    match verdict_on(shell.heap(), record)? {
+        Ok(accepted) => Ok(accepted),
+        Err(refused) => Err(rule_refused(shell, file, refused)),
+    }
+}
+
+/// The failure for a record that was made from a text and is not accepted.
+pub(crate) fn rule_refused(shell: Shell, file: TextFile, refused: Refused) -> Failure {
+    match refused.in_text(shell.heap(), file) {
+        Ok(message) => Refusal {
+            file: file.name,
+            layer: Layer::Rule,
+            number: refused.fault.number(),
+            place: refused.fault.place(),
+            message,
+        }
+        .failure(shell),
+        Err(error) => Failure::NoMemory(error),
+    }
+}
+
+/// Prints a record alone, so that the output can be handed on, and its size beside it.
+fn shown(shell: Shell, file: TextFile, record: &[u8]) -> Result<Answer, Failure> {
+    let heap = shell.heap();
+    let digits = hex::encode(heap, record)?;
+    let (bytes, nodes) = (record.len(), Walk::over(record).count());
+    if shell.json {
+        let object = json!(in heap; {
+            "file": file.name,
+            "outcome": "compiled",
+            "record": digits.as_str(),
+            "bytes": bytes,
+            "nodes": nodes
+        })?
+        .to_string(heap)?;
+        return Ok(Answer::plain(heap, format!(in heap; "{object}\n")?));
+    }
+    Ok(Answer {
+        out: format!(in heap; "{digits}\n")?,
+        beside: format!(in heap; "{}, {}\n", Counted(bytes, "byte"), Counted(nodes, "node"))?,
+        refused: false,
+    })
+}
+
+/// Writes a record to a file, which must not be the one that it was made from.
+fn written(shell: Shell, file: &str, out: &str, record: &[u8]) -> Result<Answer, Failure> {
+    let heap = shell.heap();
+    if source::is_same(shell.rt, file, out) {
+        return Err(Failure::wrong_call(
+            heap,
+            &format_args!("{out} is the rule's text: the record would be written over it"),
+        ));
+    }
+    if let Err(error) = fs::write(shell.rt, out, record) {
+        return Err(Failure::told(heap, &format_args!("error: cannot write {out}: {error}\n")));
+    }
+    let (bytes, nodes) = (record.len(), Walk::over(record).count());
+    if shell.json {
+        let object = json!(in heap; {
+            "file": out,
+            "outcome": "compiled",
+            "bytes": bytes,
+            "nodes": nodes
+        })?
+        .to_string(heap)?;
+        return Ok(Answer::plain(heap, format!(in heap; "{object}\n")?));
+    }
+    let beside = format!(in heap;
+        "{out}: {}, {}\n",
+        Counted(bytes, "byte"),
+        Counted(nodes, "node")
+    )?;
+    Ok(Answer {
+        out: String::new(heap),
+        beside,
+        refused: false,
+    })
 }

@@ -2,6 +2,8 @@
 use crate::counted::Counted;
 use law::{Call, Played, Reply, Turn};
 use run::{Found, Report, RunFault, State};
+use serde_json::{Value, json};
+use std::alloc::{AllocError, Global};
 use std::fmt;
 use store::contract::Store;
 
@@ -57,15 +59,57 @@ impl<'a> Outcome<'a> {
                 .all(|(one, two)| one.reply == two.reply)
     }
 
-    /// A line for each slot.
-    pub(crate) fn slots(&self) -> Slots<'_, 'a> {
-        Slots(self.turns.as_slice())
+    /// The slots of the run: each is a grant, and the ask behind it.
+    pub(crate) fn slots(&self, heap: Global) -> Result<Slots, AllocError> {
+        let mut slots = Vec::new(heap);
+        for (grant, ask) in self.turns.iter().zip(self.turns.iter().skip(1)) {
+            if let (Call::Grant(steps), Reply::Told(report)) = (grant.call, ask.reply) {
+                slots.push(Slot {
+                    steps,
+                    reply: grant.reply,
+                    report,
+                })?;
+            }
+        }
+        Ok(Slots(slots))
+    }
+
+    /// What the run did, for a tool.
+    pub(crate) fn object(&self, heap: Global, file: &str) -> Result<Value, AllocError> {
+        let run = self.ending.object(heap)?;
+        let slots = self.slots(heap)?.objects(heap)?;
+        json!(in heap; {"file": file, "run": run, "slots": slots})
     }
 }
 
 impl fmt::Display for Outcome<'_> {
     fn fmt<W: fmt::Write>(&self, f: &mut fmt::Formatter<W>) -> fmt::Result {
         write!(f, "{}", self.ending)
+    }
+}
+
+impl Ending {
+    /// What a run told, as an object.
+    pub(crate) fn object(&self, heap: Global) -> Result<Value, AllocError> {
+        let Report { count, state } = self.report;
+        let (answer, node) = match state {
+            State::Waiting => (Value::Null, Value::Null),
+            State::Done(Found::Number(number)) => (Value::from(number), Value::Null),
+            State::Done(Found::Truth(truth)) => (Value::from(truth), Value::Null),
+            State::Done(Found::Function { node })
+            | State::Range { node, .. }
+            | State::NoStore { node }
+            | State::NoStack { node } => (Value::Null, Value::from(node)),
+        };
+        json!(in heap; {
+            "outcome": outcome_of(state),
+            "answer": answer,
+            "node": node,
+            "steps": count,
+            "used": self.used,
+            "room": self.whole,
+            "unit": self.unit
+        })
     }
 }
 
@@ -133,29 +177,26 @@ impl fmt::Display for Standing {
     }
 }
 
-/// The calls of a run, for a line on each slot.
-#[derive(Clone, Copy)]
-pub(crate) struct Slots<'s, 'a>(&'s [Turn<'a>]);
+/// The slots of a run, shown a line for each.
+#[derive(Drop)]
+pub(crate) struct Slots(Vec<Slot>);
 
-impl fmt::Display for Slots<'_, '_> {
-    /// A slot is a grant and the ask behind it.
+impl Slots {
+    fn objects(&self, heap: Global) -> Result<Vec<Value>, AllocError> {
+        let mut objects = Vec::new(heap);
+        for slot in &self.0 {
+            objects.push(slot.object(heap)?)?;
+        }
+        Ok(objects)
+    }
+}
+
+impl fmt::Display for Slots {
     fn fmt<W: fmt::Write>(&self, f: &mut fmt::Formatter<W>) -> fmt::Result {
         let mut order = 0usize;
-        for (grant, ask) in self.0.iter().zip(self.0.iter().skip(1)) {
-            let (Call::Grant(steps), Reply::Told(report)) = (grant.call, ask.reply) else {
-                continue;
-            };
+        for slot in &self.0 {
             order = order.saturating_add(1);
-            let reply = grant.reply;
-            writeln!(
-                f,
-                "slot {order}: {}",
-                Slot {
-                    steps,
-                    reply,
-                    report
-                }
-            )?;
+            writeln!(f, "slot {order}: {slot}")?;
         }
         Ok(())
     }
@@ -167,6 +208,33 @@ struct Slot {
     steps: u32,
     reply: Reply,
     report: Report,
+}
+
+impl Slot {
+    /// The same for a tool.
+    fn object(&self, heap: Global) -> Result<Value, AllocError> {
+        let refused = match self.reply {
+            Reply::Done | Reply::Told(_) => Value::Null,
+            Reply::Refused(fault) => Value::from(fault.number()),
+        };
+        json!(in heap; {
+            "granted": self.steps,
+            "refused": refused,
+            "steps": self.report.count,
+            "outcome": outcome_of(self.report.state)
+        })
+    }
+}
+
+/// The outcome of a run in a word.
+fn outcome_of(state: State) -> &'static str {
+    match state {
+        State::Waiting => "waiting",
+        State::Done(_) => "done",
+        State::Range { .. } => "range",
+        State::NoStore { .. } => "no store",
+        State::NoStack { .. } => "no stack",
+    }
 }
 
 impl fmt::Display for Slot {

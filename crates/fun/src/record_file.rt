@@ -2,33 +2,88 @@
 use crate::failure::Failure;
 use crate::source;
 use crate::source::RECORD;
+use hex::FromHexError;
 use messages::file::{MOST_READ, shown_name};
+use std::alloc::{AllocError, Global};
 use verdicts::of_record::{Form, RecordFile};
 
 /// A record as it was found in a file.
 #[derive(Drop)]
-pub struct Found<'a> {
-    pub bytes: Vec<u8>,
-    pub from: RecordFile<'a>,
+pub(crate) struct Found<'a> {
+    pub(crate) bytes: Vec<u8>,
+    pub(crate) from: RecordFile<'a>,
 }
 
-/// Fetches a record. A file of hexadecimal digits in pairs, blanks and line ends aside, holds it in hexadecimal; every
-/// other file holds its bytes. The two are not mistaken: the third byte of a record is 1, which is no digit and no blank.
+/// Fetches a record. A file of printed characters and blanks holds it in hexadecimal; every other file holds its bytes.
+/// The two are not mistaken: the third byte of a record is 1, which is not printed.
 pub(crate) fn fetch<'a>(rt: &HostRuntime, file: &'a str) -> Result<Found<'a>, Failure> {
-    let heap = rt.alloc();
     let bytes = source::read(rt, file, RECORD)?;
     let cut = bytes.len() >= MOST_READ;
-    let digits: Vec<u8> = bytes
+    let name = shown_name(file);
+    let is_text = !bytes.is_empty()
+        && bytes.iter().all(|byte| byte.is_ascii_graphic() || byte.is_ascii_whitespace());
+    let (form, bytes) = if is_text {
+        (
+            Form::Hexadecimal,
+            from_digits(rt.alloc(), name, bytes.as_slice())?,
+        )
+    } else {
+        (Form::Bytes, bytes)
+    };
+    Ok(Found {
+        bytes,
+        from: RecordFile { name, form, cut },
+    })
+}
+
+/// The bytes that digits spell, blanks between them passed over.
+fn from_digits(heap: Global, name: &str, text: &[u8]) -> Result<Vec<u8>, Failure> {
+    let digits: Vec<u8> = text
         .iter()
         .copied()
-        // Kept: blanks in a file of digits, which need not be those of rule texts.
-        .filter(|byte| !matches!(byte, b' ' | b'\t' | b'\n' | b'\r'))
+        .filter(|byte| !byte.is_ascii_whitespace())
         .collect(heap)?;
-    let (form, bytes) = match hexadecimal::read(heap, digits.as_slice())? {
-        Some(record) if !record.is_empty() => (Form::Hexadecimal, record),
-        _ => (Form::Bytes, bytes),
-    };
-    let name = shown_name(file);
-    let from = RecordFile { name, form, cut };
-    Ok(Found { bytes, from })
+    match hex::decode(heap, digits.as_slice()) {
+        Ok(bytes) => Ok(bytes),
+        Err(FromHexError::InvalidHexCharacter { c, index }) => {
+            let (line, column) = position(text, index);
+            Err(Failure::told(
+                heap,
+                &format_args!(
+                    "error: `{c}` is no hexadecimal digit\n --> {name}:{line}:{column}\n  = help: a record in hexadecimal has the digits 0 to 9 and a to f; a rule's text is checked without --record\n"
+                ),
+            ))
+        }
+        Err(FromHexError::OutOfMemory) => Err(Failure::NoMemory(AllocError)),
+        Err(_) => {
+            let (line, column) = position(text, digits.len().saturating_sub(1));
+            Err(Failure::told(
+                heap,
+                &format_args!(
+                    "error: the last hexadecimal digit has no partner\n --> {name}:{line}:{column}\n  = help: two digits make a byte, and {} digits are an odd count\n",
+                    digits.len()
+                ),
+            ))
+        }
+    }
+}
+
+/// The line and the column, both from 1, of the digit with this index among those of a text.
+fn position(text: &[u8], index: usize) -> (usize, usize) {
+    let place = text
+        .iter()
+        .enumerate()
+        .filter(|(_, byte)| !byte.is_ascii_whitespace())
+        .nth(index)
+        .map_or(0, |(place, _)| place);
+    let before = text.get(..place).unwrap_or(text);
+    let line = before.iter().filter(|byte| **byte == b'\n').count();
+    let from = before
+        .iter()
+        .rposition(|byte| *byte == b'\n')
+        .map_or(0, |end| end + 1);
+    (
+        line.saturating_add(1),
+        before.len().saturating_sub(from).saturating_add(1),
+    )
 }

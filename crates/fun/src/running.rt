@@ -1,140 +1,227 @@
 //! The command `run`, from the file to what the run did.
-use crate::compiling::{Fetched, record_of};
+use crate::compiling::rule_refused;
 use crate::failure::Failure;
+use crate::header::Headed;
 use crate::outcome::Outcome;
-use crate::run_arguments::{Attempt, Grants, Stores, wrong};
+use crate::prepared::{Prepared, record_of};
+use crate::run_options::{Attempt, Grants, Stores};
+use crate::shell::{Answer, Shell};
+use crate::source;
+use crate::source::RULE;
+use crate::trace::single_steps;
 use flat::flat_store::FlatStore;
 use flat::slot::Slot;
-use law::{Both, Call, Turn, play, play_two};
-use lexer::token::Token;
+use law::{Both, Call, Played, Turn, play, play_two};
 use linked::cell::Cell;
 use linked::linked::LinkedStore;
-use messages::rule_text::RuleText;
-use messages::tokens::Tokens;
+use messages::file::TextFile;
+use serde_json::json;
 use std::alloc::{AllocError, Global};
 use store::blank::Blank;
 use store::contract::{BareStore, Store};
+use syntax::limits::MOST_RECORD;
 use typing::accept::accept;
 use typing::rule::Rule;
 use values::Value;
-use verdicts::verdict::{MOST_ENTRIES, Refused, TABLE};
+use verdicts::verdict::{MOST_ENTRIES, Refused, TABLE, unused_readings};
 
-/// Compiles and accepts a text, runs its rule, and prints what that did.
-pub(crate) fn run(rt: &HostRuntime, attempt: &Attempt) -> Result<String, Failure> {
-    let heap = rt.alloc();
-    let fetched = Fetched::from(rt, &attempt.origin)?;
-    let text = fetched.rule(&attempt.origin);
-    let record = record_of(heap, text)?;
-    all_named(heap, "run", text)?;
-    let accepted = || rule_of(heap, text, record.as_slice());
-    Ok(match attempt.stores {
-        Stores::Linked => over_linked(heap, attempt, accepted()?)?,
-        Stores::Flat => over_flat(heap, attempt, accepted()?)?,
-        Stores::Both => over_both(heap, attempt, accepted()?, accepted()?)?,
-    })
+/// The readings of a run and the steps that it is granted, one slot after another.
+#[derive(Drop)]
+pub(crate) struct Plan {
+    pub(crate) readings: Vec<i32>,
+    pub(crate) slots: Vec<u32>,
 }
 
-/// Refuses a reading that the text does not name: it was meant as another, or the text was.
-pub(crate) fn all_named(heap: Global, command: &str, rule: RuleText) -> Result<(), Failure> {
-    for name in &rule.origin.names {
-        let named = Tokens::of(rule.text).any(|piece| {
-            matches!(piece.token, Token::Name(found) if found == name.as_bytes())
-        });
-        if !named {
-            return Err(wrong(
-                heap,
-                command,
-                format_args!("the rule has no reading `{name}`: its text does not name it"),
-            ));
+impl Plan {
+    /// The calls of a run: a rewind with the readings, and an ask behind each grant.
+    pub(crate) fn turns(&self, heap: Global) -> Result<Vec<Turn<'_>>, AllocError> {
+        let mut turns = Vec::new(heap);
+        turns.push(Turn::new(Call::Rewind(self.readings.as_slice())))?;
+        for steps in &self.slots {
+            turns.push(Turn::new(Call::Grant(*steps)))?;
+            turns.push(Turn::new(Call::Ask))?;
         }
+        Ok(turns)
     }
-    Ok(())
+}
+
+/// Compiles and accepts a text, runs its rule, and prints what that did.
+pub(crate) fn run(shell: Shell, attempt: &Attempt) -> Result<Answer, Failure> {
+    let heap = shell.heap();
+    let bytes = source::read(shell.rt, attempt.file, RULE)?;
+    let prepared = prepared(shell, attempt, bytes.as_slice())?;
+    let text = prepared.rule();
+    let record = record_of(shell, text)?;
+    let accepted = || rule_of(shell, text.file(), record.as_slice());
+    let rule = accepted()?;
+    let unused = unused_readings(heap, &rule)?;
+    let plan = Plan {
+        readings: attempt.readings(heap, prepared.origin.names.as_slice())?,
+        slots: slots_of(heap, attempt)?,
+    };
+    let told = match attempt.stores {
+        Stores::Linked => over_linked(shell, attempt, plan, rule)?,
+        Stores::Flat => over_flat(shell, attempt, plan, rule)?,
+        Stores::Both => over_both(shell, attempt, &plan, rule, accepted()?)?,
+    };
+    let mut answer = Answer::plain(heap, told);
+    if !shell.json {
+        prepared.warn_of_unused(heap, unused.as_slice(), &mut answer.beside)?;
+    }
+    Ok(answer)
+}
+
+/// The text with its names. Where the file names its readings, the call may give them in any order.
+pub(crate) fn prepared<'a>(
+    shell: Shell,
+    attempt: &Attempt<'a>,
+    bytes: &'a [u8],
+) -> Result<Prepared<'a>, Failure> {
+    let called: &[&'a str] = match Headed::of(bytes).names {
+        Some(_) => &[],
+        None => attempt.names.as_slice(),
+    };
+    Prepared::new(shell, attempt.file, bytes, called, MOST_RECORD)
+}
+
+/// The steps of a call, as slots.
+fn slots_of(heap: Global, attempt: &Attempt) -> Result<Vec<u32>, AllocError> {
+    match &attempt.grants {
+        Grants::Once(steps) => vec![in heap; *steps; 1],
+        Grants::Slots(slots) => slots.iter().copied().collect(heap),
+    }
 }
 
 /// The rule of a record, or why it is not accepted.
-fn rule_of(heap: Global, text: RuleText, record: &[u8]) -> Result<Rule, Failure> {
+fn rule_of(shell: Shell, file: TextFile, record: &[u8]) -> Result<Rule, Failure> {
+    let heap = shell.heap();
     let mut first = vec![in heap; 0u16; TABLE]?;
     let mut second = vec![in heap; 0u16; TABLE]?;
     let mut types = vec![in heap; 0u16; MOST_ENTRIES]?;
     let mut rule = Rule::new();
     match accept(record, &mut first, &mut second, &mut types, &mut rule) {
         Ok(_) => Ok(rule),
-        Err(fault) => Err(Failure::told(
-            heap,
-            &Refused { record, fault }.in_text(heap, text.file())?,
-        )),
+        Err(fault) => Err(rule_refused(shell, file, Refused { record, fault })),
     }
 }
 
-/// The calls of a run: a rewind with the readings, and an ask behind each grant.
-fn turns_of<'a>(heap: Global, attempt: &'a Attempt) -> Result<Vec<Turn<'a>>, AllocError> {
-    let mut turns = Vec::new(heap);
-    turns.push(Turn::new(Call::Rewind(attempt.readings.as_slice())))?;
-    match &attempt.grants {
-        Grants::Once(steps) => turns.push(Turn::new(Call::Grant(*steps)))?,
-        Grants::Slots(slots) => {
-            for steps in slots {
-                turns.push(Turn::new(Call::Grant(*steps)))?;
-                turns.push(Turn::new(Call::Ask))?;
-            }
-        }
-    }
-    Ok(turns)
-}
-
-/// Runs a rule over a store.
+/// Runs a rule over a store. A trace without slots runs it twice: how many steps it takes is known behind the first.
 fn over<S: BareStore + Store<Elem = Value> + Drop>(
-    heap: Global,
+    shell: Shell,
     attempt: &Attempt,
+    plan: Plan,
     rule: Rule,
     store: S,
     unit: &'static str,
 ) -> Result<String, AllocError> {
+    let heap = shell.heap();
     let whole = store.free();
-    let mut turns = turns_of(heap, attempt)?;
+    let mut turns = plan.turns(heap)?;
     let played = play(rule, store, &mut turns);
-    told(heap, &Outcome::of(played, turns, whole, unit))
+    match &attempt.grants {
+        Grants::Once(_) if attempt.trace => {
+            let Played {
+                rule,
+                store,
+                report,
+            } = played;
+            let traced = single_steps(heap, &plan, report)?;
+            let mut turns = traced.turns(heap)?;
+            let played = play(rule, store, &mut turns);
+            told(shell, attempt, &Outcome::of(played, turns, whole, unit))
+        }
+        _ => told(shell, attempt, &Outcome::of(played, turns, whole, unit)),
+    }
 }
 
-fn over_linked(heap: Global, attempt: &Attempt, rule: Rule) -> Result<String, AllocError> {
-    let mut cells = vec![in heap; Cell::<Value>::blank(); attempt.room]?;
-    over(heap, attempt, rule, LinkedStore::new(&mut cells), "cell")
+fn over_linked(
+    shell: Shell,
+    attempt: &Attempt,
+    plan: Plan,
+    rule: Rule,
+) -> Result<String, AllocError> {
+    let mut cells = vec![in shell.heap(); Cell::<Value>::blank(); attempt.room]?;
+    over(
+        shell,
+        attempt,
+        plan,
+        rule,
+        LinkedStore::new(&mut cells),
+        "cell",
+    )
 }
 
-fn over_flat(heap: Global, attempt: &Attempt, rule: Rule) -> Result<String, AllocError> {
-    let mut slots = vec![in heap; Slot::<Value>::Spare; attempt.room]?;
-    over(heap, attempt, rule, FlatStore::new(&mut slots), "slot")
+fn over_flat(
+    shell: Shell,
+    attempt: &Attempt,
+    plan: Plan,
+    rule: Rule,
+) -> Result<String, AllocError> {
+    let mut slots = vec![in shell.heap(); Slot::<Value>::Spare; attempt.room]?;
+    over(
+        shell,
+        attempt,
+        plan,
+        rule,
+        FlatStore::new(&mut slots),
+        "slot",
+    )
 }
 
 /// Runs one rule over the linked store and the other over the flat one, and says whether the two tell the same.
 fn over_both(
-    heap: Global,
+    shell: Shell,
     attempt: &Attempt,
+    plan: &Plan,
     rule: Rule,
     other: Rule,
 ) -> Result<String, AllocError> {
+    let heap = shell.heap();
     let mut cells = vec![in heap; Cell::<Value>::blank(); attempt.room]?;
     let mut slots = vec![in heap; Slot::<Value>::Spare; attempt.room]?;
     let linked = LinkedStore::new(&mut cells);
     let flat = FlatStore::new(&mut slots);
     let (cells, slots) = (linked.free(), flat.free());
-    let mut turns = turns_of(heap, attempt)?;
-    let mut other_turns = turns_of(heap, attempt)?;
+    let mut turns = plan.turns(heap)?;
+    let mut other_turns = plan.turns(heap)?;
     let Both { one, two } = play_two(rule, linked, &mut turns, other, flat, &mut other_turns);
     let one = Outcome::of(one, turns, cells, "cell");
     let two = Outcome::of(two, other_turns, slots, "slot");
-    let verdict = if one.tells_the_same(&two) {
+    let same = one.tells_the_same(&two);
+    if shell.json {
+        let linked = one.object(heap, attempt.file)?;
+        let flat = two.object(heap, attempt.file)?;
+        let object = json!(in heap; {
+            "file": attempt.file,
+            "same": same,
+            "linked": linked,
+            "flat": flat
+        })?
+        .to_string(heap)?;
+        return format!(in heap; "{object}\n");
+    }
+    let verdict = if same {
         "both stores tell the same"
     } else {
         "the stores do not tell the same: with more room they do"
     };
-    let one = told(heap, &one)?;
-    let two = told(heap, &two)?;
+    let one = told(shell, attempt, &one)?;
+    let two = told(shell, attempt, &two)?;
     format!(in heap; "linked store:\n{one}flat store:\n{two}{verdict}\n")
 }
 
-/// What a run did, and a line for each slot.
-fn told(heap: Global, outcome: &Outcome) -> Result<String, AllocError> {
-    let slots = outcome.slots();
-    format!(in heap; "{outcome}{slots}")
+/// What a run did, and a line for each slot where the call has slots or wants a trace.
+fn told(shell: Shell, attempt: &Attempt, outcome: &Outcome) -> Result<String, AllocError> {
+    let heap = shell.heap();
+    if shell.json {
+        let object = outcome.object(heap, attempt.file)?.to_string(heap)?;
+        return format!(in heap; "{object}\n");
+    }
+    match &attempt.grants {
+        Grants::Once(_) if !attempt.trace => format!(in heap; "{outcome}"),
+        _ => {
+            let slots = outcome.slots(heap)?;
+            format!(in heap; "{outcome}{slots}")
+        }
+    }
 }

@@ -9,17 +9,24 @@ use std::io;
 use syntax::limits::{MOST_NODES, MOST_RECORD, MOST_TEXT};
 
 /// Texts that break at a token.
-const TOKENS: [&[u8]; 6] = [
+const TOKENS: [&[u8]; 13] = [
     b"coil - 5",
     b"if coil < 80 then 1 else 0",
     b"coil + \xc3\xa9t\xc3\xa9",
     b"coil + \xff\x01\x1b[2J",
     b"coil + -2147483649",
     b"let n = n + 1 in n",
+    b"1 + coli",
+    b"coil // in tenths",
+    b"coil -- in tenths",
+    b"80 \xe2\x89\xa4 coil",
+    b"\xef\xbb\xbfcoil",
+    b"coil . coil",
+    b"(coil, 2)",
 ];
 
 /// Texts that break the grammar.
-const SENTENCES: [&[u8]; 9] = [
+const SENTENCES: [&[u8]; 18] = [
     b"",
     b"let a = 1 in\n  1 + fun x -> x\n",
     b"1 <= coil <= 3",
@@ -29,6 +36,15 @@ const SENTENCES: [&[u8]; 9] = [
     b"let x coil",
     b"if coil then 1",
     b"1 +\r\n\r\n",
+    b"coil +  \n   \n",
+    b"let if = 3 in if",
+    b"fun let -> 1",
+    b"if (coil <= 3) 1 else 2",
+    b"let x = 1\nx",
+    b"if coil <= 3 then (1 + 2 else 3",
+    b"(let x = 1 in x + 1",
+    b"let f = fun x -> x",
+    b"1 in 2",
 ];
 
 /// Lines that are hard to show.
@@ -75,6 +91,7 @@ fn text_refused(rt: &HostRuntime, text: &[u8], room: usize) -> io::Result<()> {
     };
     let rule = RuleText {
         text,
+        whole: text,
         book: &book,
         origin: &origin,
     };

@@ -2,6 +2,7 @@
 ghost use Rattle.std.specs.Prelude.{◌≡◌, IfOk};
 
 use crate::file::TextFile;
+use crate::paint::Paint;
 use crate::reason::Reason;
 use crate::snippet::Snippet;
 use std::alloc::{AllocError, Global};
@@ -68,20 +69,68 @@ impl<'a> Message<'a> {
     }
 }
 
+impl Message<'_> {
+    /// What is wrong, why, and what to write instead.
+    pub fn reason(&self) -> &Reason {
+        &self.reason
+    }
+
+    /// The line and the column, both from 1, of what it points at.
+    pub fn position(&self) -> Option<(usize, usize)> {
+        match &self.subject {
+            Subject::Whole(_) => None,
+            Subject::Part(snippet) => Some(snippet.position()),
+        }
+    }
+
+    /// The message in colours.
+    pub fn painted(&self, paint: Paint) -> Painted<'_> {
+        Painted {
+            message: self,
+            paint,
+        }
+    }
+}
+
 impl fmt::Display for Message<'_> {
     fn fmt<W: fmt::Write>(&self, f: &mut fmt::Formatter<W>) -> fmt::Result {
-        writeln!(f, "error[{}]: {}", self.number, self.reason.title)?;
-        let margin = match &self.subject {
+        write!(f, "{}", self.painted(Paint::PLAIN))
+    }
+}
+
+/// A message, and the colours that it is shown in.
+#[derive(Clone, Copy)]
+pub struct Painted<'m> {
+    message: &'m Message<'m>,
+    paint: Paint,
+}
+
+impl fmt::Display for Painted<'_> {
+    fn fmt<W: fmt::Write>(&self, f: &mut fmt::Formatter<W>) -> fmt::Result {
+        let Painted { message, paint } = *self;
+        let Paint {
+            wrong,
+            frame,
+            title,
+            end,
+        } = paint;
+        let reason = &message.reason;
+        writeln!(
+            f,
+            "{wrong}error[{}]{end}{title}: {}{end}",
+            message.number, reason.title
+        )?;
+        let margin = match &message.subject {
             Subject::Whole(subject) => {
-                writeln!(f, " --> {subject}")?;
+                writeln!(f, " {frame}-->{end} {subject}")?;
                 1
             }
             Subject::Part(snippet) => {
-                write!(f, "{snippet}")?;
+                snippet.draw_in(f, paint)?;
                 snippet.margin()
             }
         };
-        writeln!(f, "{:margin$} = why: {}", "", self.reason.why)?;
-        writeln!(f, "{:margin$} = help: {}", "", self.reason.help)
+        writeln!(f, "{:margin$} {frame}={end} why: {}", "", reason.why)?;
+        writeln!(f, "{:margin$} {frame}={end} help: {}", "", reason.help)
     }
 }

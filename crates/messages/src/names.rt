@@ -6,11 +6,11 @@ use crate::quote::Quoted;
 use crate::reason::Reason;
 use book::fault::NameFault;
 use book::name::MOST_BYTES;
-use lexer::scan::{is_name, next_part};
+use lexer::scan::next_part;
 use std::alloc::{AllocError, Global};
 use syntax::limits::MOST_READINGS;
 
-/// The message for a refused name, which stands at this place among the names, from 0.
+/// The message for a refused name, by its order among the names, from 0.
 pub fn refused(
     heap: Global,
     fault: NameFault,
@@ -20,38 +20,38 @@ pub fn refused(
     ensures { IfOk result (λ message. message.number ≡ 53) }
 {
     let order = at.saturating_add(1);
-    let reason = reason_of(heap, name.as_bytes(), at)?;
+    let reason = reason_of(heap, fault, name.as_bytes())?;
     let name = Quoted(name.as_bytes());
-    let subject = format!(in heap; "NAME {order} of the call: {name}")?;
+    let subject = format!(in heap; "the name of reading {order}: {name}")?;
     Ok(Message::about(fault.number(), subject.into(), reason))
 }
 
-/// Why a name is refused that stands at this place, from 0.
-fn reason_of(heap: Global, name: &[u8], at: usize) -> Result<Reason, AllocError> {
-    if at >= MOST_READINGS {
-        let why = format!(in heap; "a rule has at most {MOST_READINGS} readings")?;
-        let help = format!(in heap; "name at most {MOST_READINGS} readings")?;
-        return Ok(Reason::new("there are too many names", why, help));
-    }
-    let length = name.len();
-    if length > MOST_BYTES {
-        let why = format!(in heap;
-            "it has {length} bytes, and a reading's name at most {MOST_BYTES}"
-        )?;
-        return Ok(Reason::new("the name is too long", why, "choose a shorter name"));
-    }
-    if is_name(name) {
-        return Ok(Reason::new(
+/// Why a name is refused, and what to do.
+fn reason_of(heap: Global, fault: NameFault, name: &[u8]) -> Result<Reason, AllocError> {
+    match fault {
+        NameFault::Full => {
+            let why = format!(in heap; "a rule has at most {MOST_READINGS} readings")?;
+            let help = format!(in heap; "name at most {MOST_READINGS} readings")?;
+            Ok(Reason::new("there are too many names", why, help))
+        }
+        NameFault::TooLong => {
+            let length = name.len();
+            let why = format!(in heap;
+                "it has {length} bytes, and a reading's name at most {MOST_BYTES}"
+            )?;
+            Ok(Reason::new("the name is too long", why, "choose a shorter name"))
+        }
+        NameFault::Taken => Ok(Reason::new(
             "the name is there already",
             "an earlier reading has the same name",
             "give each reading a name of its own",
-        ));
+        )),
+        NameFault::NoName => Ok(Reason::new(
+            "this is not a name",
+            no_name(name),
+            "write a letter, then letters, digits and underscores",
+        )),
     }
-    Ok(Reason::new(
-        "this is not a name",
-        no_name(name),
-        "write a letter, then letters, digits and underscores",
-    ))
 }
 
 /// Why these bytes are no name. A word that is none is a keyword.

@@ -60,3 +60,16 @@ impl fmt::Display for Quoted<'_> {
         write!(f, "`")
     }
 }
+
+/// A name that somebody else chose, as of a file.
+#[derive(Clone, Copy)]
+pub(crate) struct Shown<'a>(pub(crate) &'a str);
+
+impl fmt::Display for Shown<'_> {
+    fn fmt<W: fmt::Write>(&self, f: &mut fmt::Formatter<W>) -> fmt::Result {
+        for character in self.0.chars() {
+            write!(f, "{}", Cell::Char(character))?;
+        }
+        Ok(())
+    }
+}

@@ -1,21 +1,19 @@
 //! Why a text is refused.
-use crate::context::Context;
+use crate::context::{Context, written};
 use crate::file::MOST_READ;
+use crate::meant::meant_by;
+use crate::near::nearest;
 use crate::quote::Quoted;
 use crate::reason::Reason;
 use crate::rule_text::RuleText;
 use crate::tokens::nodes_of_sentence;
 use lexer::fault::LexFault;
+use lexer::scan::next_part;
+use lexer::token::{Placed, Token};
 use std::alloc::{AllocError, Global};
 use std::borrow::CowStr;
 use syntax::limits::{MOST_NODES, MOST_RECORD, MOST_TEXT};
 use text::fault::CompileFault;
-
-/// What is said of a byte that nobody can have meant.
-const NO_SUCH_BYTE: (&str, &str) = (
-    "no token has this byte",
-    "use names, numbers, ( ) + <= = -> and the eight keywords",
-);
 
 impl RuleText<'_, '_> {
     /// The reason for a refusal.
@@ -25,7 +23,7 @@ impl RuleText<'_, '_> {
             CompileFault::Lex(LexFault::NoToken(place)) => Ok(self.no_token(place)),
             CompileFault::Lex(LexFault::OutOfRange(_)) => Ok(out_of_range()),
             CompileFault::Unexpected(place) => self.unexpected(heap, place),
-            CompileFault::Unknown(_) => self.unknown(heap),
+            CompileFault::Unknown(place) => self.unknown(heap, place),
             CompileFault::TooManyNodes => self.too_many_nodes(heap),
             CompileFault::NoRoom => self.no_room(heap),
         }
@@ -60,39 +58,78 @@ impl RuleText<'_, '_> {
         Ok(Reason::new("the record does not fit", why, help))
     }
 
-    /// Guesses from the byte what was meant.
+    /// Guesses from the bytes what was meant.
     fn no_token(&self, place: usize) -> Reason {
-        let (why, help) = self
-            .text
-            .get(place)
-            .map_or(NO_SUCH_BYTE, |byte| meant_by(*byte));
+        let (why, help) = meant_by(self.text.get(place..).unwrap_or(&[]));
         Reason::new("no token begins here", why, help)
     }
 
-    fn unknown(&self, heap: Global) -> Result<Reason, AllocError> {
-        let names = self.origin.names.as_slice();
-        let help = if names.is_empty() {
-            CowStr::from("name the readings behind the file: fun compile FILE NAME..")
-        } else {
-            let names = names.join(heap, " ")?;
-            CowStr::from(format!(in heap; "use a name that is opened here, or a reading: {names}")?)
-        };
+    fn unknown(&self, heap: Global, place: usize) -> Result<Reason, AllocError> {
         let why = "it names no reading, and no `fun` or `let` around it opens it";
-        Ok(Reason::new("this name is not in force", why, help))
+        let help = self.help_for_unknown(heap, place)?;
+        Ok(Reason::new("unknown name", why, help))
     }
 
-    /// Says what should have stood in the token's place, or why the token cannot.
+    /// The name that was perhaps meant, or the readings that there are.
+    fn help_for_unknown(&self, heap: Global, place: usize) -> Result<CowStr<'static>, AllocError> {
+        let names = self.origin.names.as_slice();
+        if names.is_empty() {
+            return Ok(CowStr::from(
+                "name the readings behind the file, as in fun compile FILE NAME.., or in its first line",
+            ));
+        }
+        if let Ok(
+            Placed {
+                token: Token::Name(name),
+                ..
+            },
+        ) = next_part(self.text, place)
+        {
+            if let Some(near) = nearest(heap, name, names)? {
+                return Ok(CowStr::from(format!(in heap; "did you mean the reading `{near}`?")?));
+            }
+        }
+        let names = names.join(heap, " ")?;
+        Ok(CowStr::from(format!(in heap; "use a name that is opened here, or a reading: {names}")?))
+    }
+
+    /// Says what should have stood in the token's place, or what is not finished before it.
     fn unexpected(&self, heap: Global, place: usize) -> Result<Reason, AllocError> {
-        let context = Context::at(self.text, place);
-        let why = match (context.last, context.wanted()) {
-            (None, _) => CowStr::from("a rule begins with an expression"),
-            (Some(_), None) => CowStr::from(context.behind_operand()),
-            (Some(last), Some(wanted)) => {
+        let context = Context::at(heap, self.text, place)?;
+        let why = match (context.last, context.keyword_for_name(), context.wanted()) {
+            (None, _, _) => CowStr::from("a rule begins with an expression"),
+            (Some(_), Some(keyword), _) => {
+                CowStr::from(format!(in heap; "{keyword} is a keyword, and no name")?)
+            }
+            (Some(_), None, None) => self.behind_operand(heap, &context)?,
+            (Some(last), None, Some(wanted)) => {
                 let stands = Quoted(self.text.get(last.place..last.stop).unwrap_or(&[]));
                 CowStr::from(format!(in heap; "behind {stands} the grammar wants {wanted}")?)
             }
         };
         Ok(Reason::new(context.title(), why, context.advice()))
+    }
+
+    /// Why a token cannot follow an operand.
+    fn behind_operand(
+        &self,
+        heap: Global,
+        context: &Context,
+    ) -> Result<CowStr<'static>, AllocError> {
+        if let Some(why) = context.behind_operand() {
+            return Ok(CowStr::from(why));
+        }
+        match context.innermost() {
+            Some(unfinished) => {
+                let (line, column) = self.file().position(unfinished.place);
+                let begun = written(unfinished.begun_by);
+                let awaited = written(unfinished.awaited);
+                Ok(CowStr::from(format!(in heap;
+                    "the {begun} at line {line}, column {column} waits for its {awaited}"
+                )?))
+            }
+            None => Ok(CowStr::from(context.behind_all())),
+        }
     }
 }
 
@@ -102,46 +139,4 @@ fn out_of_range() -> Reason {
         "numbers run from -2147483648 to 2147483647",
         "write a number of this range",
     )
-}
-
-/// Why a byte begins no token, and what to write in its place.
-fn meant_by(byte: u8) -> (&'static str, &'static str) {
-    match byte {
-        b'<' => (
-            "`<` stands only in `<=`",
-            "write `a <= b`; for `a < b` on numbers, `a + 1 <= b`",
-        ),
-        b'>' => (
-            "`>` stands only in `->`",
-            "write `b <= a` for `a >= b`, and `b + 1 <= a` for `a > b`",
-        ),
-        b'-' => (
-            "a minus stands only directly before a digit, or in `->`",
-            "write `a + -1` for `a - 1`",
-        ),
-        b'*' | b'/' | b'%' => (
-            "FUN only adds and compares",
-            "use `+`, or have the reading scaled beforehand",
-        ),
-        b'_' => (
-            "a name begins with a letter",
-            "put a letter before the underscore",
-        ),
-        b'.' | b',' => (
-            "FUN has whole numbers only, and no lists",
-            "write tenths as whole numbers, as 215 for 21.5",
-        ),
-        b'#' => (
-            "FUN has no comments",
-            "say it in a name, or beside the file",
-        ),
-        b'{' | b'}' | b'[' | b']' => ("only round parentheses group", "write `(` and `)`"),
-        b'&' | b'|' | b'!' => (
-            "truths are combined by `if`",
-            "write `if a then b else false` for a and b",
-        ),
-        0..=31 | 127 => ("it is a control byte", "remove it"),
-        128..=255 => ("a text is ASCII", "write names and signs in ASCII"),
-        _ => NO_SUCH_BYTE,
-    }
 }

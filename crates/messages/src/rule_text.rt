@@ -24,6 +24,8 @@ pub struct Origin<'a> {
 #[derive(Clone, Copy)]
 pub struct RuleText<'a, 'n> {
     pub text: &'a [u8],
+    /// The file that the text ends.
+    pub whole: &'a [u8],
     pub book: &'a Book,
     pub origin: &'a Origin<'n>,
 }
@@ -35,6 +37,7 @@ impl<'a> RuleText<'a, '_> {
     {
         TextFile {
             name: shown_name(self.origin.file),
+            whole: self.whole,
             text: self.text,
         }
     }

@@ -2,7 +2,8 @@
 use crate::file::TextFile;
 use crate::frame::Span;
 use crate::line::Line;
-use crate::quote::Cell;
+use crate::paint::Paint;
+use crate::quote::{Cell, Shown};
 use std::alloc::{AllocError, Global};
 use std::fmt;
 use std::ops::Range;
@@ -29,8 +30,13 @@ impl<'a> Snippet<'a> {
         file: TextFile<'a>,
         span: Span,
     ) -> Result<Snippet<'a>, AllocError> {
-        let line = Line::of(file.text, span.place);
-        let last = Line::of(file.text, span.stop.saturating_sub(1)).number;
+        let before = file.before();
+        let span = Span {
+            place: span.place.saturating_add(before),
+            stop: span.stop.saturating_add(before),
+        };
+        let line = Line::of(file.whole, span.place);
+        let last = Line::of(file.whole, span.stop.saturating_sub(1)).number;
         let place = line.before(span.place);
         let mut snippet = Snippet {
             file: file.name,
@@ -43,7 +49,9 @@ impl<'a> Snippet<'a> {
             snippet.draw(heap, line.bytes, place..line.bytes.trim_ascii_end().len())?;
             write!(snippet.carets, " to line {last}")?;
         } else {
-            snippet.draw(heap, line.bytes, place..line.before(span.stop))?;
+            // Where nothing is marked, as at the end of the text, one caret tells the place.
+            let stop = line.before(span.stop).max(place.saturating_add(1));
+            snippet.draw(heap, line.bytes, place..stop)?;
         }
         Ok(snippet)
     }
@@ -76,6 +84,42 @@ impl<'a> Snippet<'a> {
         Ok(())
     }
 
+    /// Its line and column, both from 1.
+    pub(crate) fn position(&self) -> (usize, usize) {
+        (self.line, self.column)
+    }
+
+    /// Shows it in colours.
+    pub(crate) fn draw_in<W: fmt::Write>(
+        &self,
+        f: &mut fmt::Formatter<W>,
+        paint: Paint,
+    ) -> fmt::Result {
+        let Paint {
+            wrong,
+            frame,
+            end,
+            ..
+        } = paint;
+        let margin = self.margin();
+        let line = self.line;
+        writeln!(
+            f,
+            "{:margin$}{frame}-->{end} {}:{line}:{}",
+            "",
+            Shown(self.file),
+            self.column
+        )?;
+        writeln!(f, "{:margin$} {frame}|{end}", "")?;
+        writeln!(f, "{frame}{line} |{end} {}", self.shown)?;
+        writeln!(
+            f,
+            "{:margin$} {frame}|{end} {wrong}{}{end}",
+            "", self.carets
+        )?;
+        writeln!(f, "{:margin$} {frame}|{end}", "")
+    }
+
     /// As many blanks as the number of the line has digits stand before what is not the line.
     pub(crate) fn margin(&self) -> usize {
         self.line
@@ -106,17 +150,5 @@ fn cells(heap: Global, line: &[u8]) -> Result<Vec<(usize, Cell)>, AllocError> {
             .enumerate()
             .map(|(at, byte)| (at, Cell::from(*byte)))
             .collect(heap),
-    }
-}
-
-impl fmt::Display for Snippet<'_> {
-    fn fmt<W: fmt::Write>(&self, f: &mut fmt::Formatter<W>) -> fmt::Result {
-        let margin = self.margin();
-        let line = self.line;
-        writeln!(f, "{:margin$}--> {}:{line}:{}", "", self.file, self.column)?;
-        writeln!(f, "{:margin$} |", "")?;
-        writeln!(f, "{line} | {}", self.shown)?;
-        writeln!(f, "{:margin$} | {}", "", self.carets)?;
-        writeln!(f, "{:margin$} |", "")
     }
 }

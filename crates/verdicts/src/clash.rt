@@ -10,11 +10,19 @@ use std::alloc::{AllocError, Global};
 use syntax::kind::Kind;
 use syntax::node::Node;
 
+/// What a node's kind tells of a type.
+#[derive(Clone, Copy)]
+enum Plain {
+    Int,
+    Bool,
+    Function,
+}
+
 /// What is known of the type of a node by its kind alone.
 #[derive(Clone, Copy)]
 enum Own {
     /// It has this type, as these words say.
-    Told(&'static str),
+    Told(Plain, &'static str),
     /// It is a name that a `fun` or a `let` opens.
     Opened,
     /// It takes the type that is asked for.
@@ -25,7 +33,7 @@ enum Own {
 #[derive(Clone, Copy)]
 enum Asked {
     /// A type that the node above it tells by its kind.
-    Told(&'static str),
+    Told(Plain, &'static str),
     /// A function of its argument and of what is asked of the application.
     Function,
     /// A type that depends on what stands before.
@@ -45,8 +53,7 @@ struct Clash {
 pub(crate) fn clash_at(heap: Global, node: NodeAt) -> Result<Reason, AllocError> {
     let clash = Clash::at(heap, node)?;
     let why = clash.why(heap)?;
-    let title = "the types no longer go together here";
-    Ok(Reason::new(title, why, clash.advice()))
+    Ok(Reason::new(clash.title(), why, clash.advice()))
 }
 
 impl Clash {
@@ -62,9 +69,9 @@ impl Clash {
 
     fn asked(&self) -> Asked {
         match self.role {
-            Role::Summand => Asked::Told("`+` adds two ints"),
-            Role::Compared => Asked::Told("`<=` compares two ints"),
-            Role::Condition => Asked::Told("the condition of an `if` is a bool"),
+            Role::Summand => Asked::Told(Plain::Int, "`+` adds two ints"),
+            Role::Compared => Asked::Told(Plain::Int, "`<=` compares two ints"),
+            Role::Condition => Asked::Told(Plain::Bool, "the condition of an `if` is a bool"),
             Role::Applied => Asked::Function,
             Role::Argument => Asked::Depends("an argument has the type that its function takes"),
             Role::Branch => Asked::Depends("both branches of an `if` have the type of the `if`"),
@@ -76,16 +83,33 @@ impl Clash {
         }
     }
 
+    /// What is wrong: which types meet, where both are told by kinds of nodes alone.
+    fn title(&self) -> &'static str {
+        match (self.asked(), self.own) {
+            (Asked::Told(Plain::Int, _), Own::Told(Plain::Bool, _)) => "expected int, found bool",
+            (Asked::Told(Plain::Int, _), Own::Told(Plain::Function, _)) => {
+                "expected int, found a function"
+            }
+            (Asked::Told(Plain::Bool, _), Own::Told(Plain::Int, _)) => "expected bool, found int",
+            (Asked::Told(Plain::Bool, _), Own::Told(Plain::Function, _)) => {
+                "expected bool, found a function"
+            }
+            (Asked::Function, Own::Told(Plain::Int, _)) => "expected a function, found int",
+            (Asked::Function, Own::Told(Plain::Bool, _)) => "expected a function, found bool",
+            _ => "the types no longer go together here",
+        }
+    }
+
     fn why(&self, heap: Global) -> Result<String, AllocError> {
         match (self.own, self.asked()) {
-            (Own::Told(own), Asked::Told(asked)) => format!(in heap; "{own}, but {asked}"),
-            (Own::Told(own), Asked::Function) => format!(in heap;
+            (Own::Told(_, own), Asked::Told(_, asked)) => format!(in heap; "{own}, but {asked}"),
+            (Own::Told(_, own), Asked::Function) => format!(in heap;
                 "{own}, but what is applied to an argument is a function"
             ),
-            (Own::Told(own), Asked::Depends(asked)) => format!(in heap;
+            (Own::Told(_, own), Asked::Depends(asked)) => format!(in heap;
                 "{own}, but {asked}, and by what stands before that is another"
             ),
-            (Own::Opened, Asked::Told(asked)) => format!(in heap;
+            (Own::Opened, Asked::Told(_, asked)) => format!(in heap;
                 "{asked}, and by what stands before this name has another type"
             ),
             (Own::Opened | Own::Any, Asked::Function) => String::from_str(
@@ -95,7 +119,7 @@ impl Clash {
             (Own::Opened, Asked::Depends(asked)) => format!(in heap;
                 "a name has one type wherever it is used, and {asked}; with what stands before, both cannot be"
             ),
-            (Own::Any, Asked::Told(asked) | Asked::Depends(asked)) => format!(in heap;
+            (Own::Any, Asked::Told(_, asked) | Asked::Depends(asked)) => format!(in heap;
                 "{asked}, and with what stands before that cannot be"
             ),
         }
@@ -107,10 +131,10 @@ impl Clash {
                 "write an int here; `if t then 1 else 0` makes one of a truth t"
             }
             (Role::Condition, _) => "write a truth here, as the comparison `1 <= a` for an int a",
-            (Role::Applied, Own::Told(_)) if self.before_a_minus => {
+            (Role::Applied, Own::Told(_, _)) if self.before_a_minus => {
                 "write `a + -1` for `a - 1`: a number behind a part is its argument"
             }
-            (Role::Applied, Own::Told(_)) => {
+            (Role::Applied, Own::Told(_, _)) => {
                 "write a function before its argument, or an operator between the two"
             }
             (Role::Applied, _) => {
@@ -128,13 +152,13 @@ impl Clash {
 /// What a node says of its type.
 fn own_of(node: Node) -> Own {
     match node {
-        Node::Number(_) => Own::Told("a number is an int"),
-        Node::Truth(_) => Own::Told("a truth is a bool"),
-        Node::Sum(_, _) => Own::Told("a sum is an int"),
-        Node::AtMost(_, _) => Own::Told("a comparison is a bool"),
-        Node::Function(_) => Own::Told("`fun` makes a function"),
+        Node::Number(_) => Own::Told(Plain::Int, "a number is an int"),
+        Node::Truth(_) => Own::Told(Plain::Bool, "a truth is a bool"),
+        Node::Sum(_, _) => Own::Told(Plain::Int, "a sum is an int"),
+        Node::AtMost(_, _) => Own::Told(Plain::Bool, "a comparison is a bool"),
+        Node::Function(_) => Own::Told(Plain::Function, "`fun` makes a function"),
         Node::Variable(_) => Own::Opened,
-        Node::Reading(_) => Own::Told("a reading is an int"),
+        Node::Reading(_) => Own::Told(Plain::Int, "a reading is an int"),
         Node::Application(_, _) | Node::LetIn(_, _) | Node::IfElse(_, _, _) => Own::Any,
     }
 }

@@ -5,6 +5,7 @@ ghost use Rattle.verdicts.specs.Told.{Told};
 use crate::words::in_words;
 use std::alloc::{AllocError, Global};
 use syntax::limits::MOST_NODES;
+use syntax::node::Node;
 use typing::accept::accept;
 use typing::fault::AcceptFault;
 use typing::rule::Rule;
@@ -22,6 +23,8 @@ pub struct Accepted {
     pub readings: usize,
     /// Its most general type, in words.
     pub type_words: String,
+    /// The readings that it does not use, counted from 0.
+    pub unused: Vec<usize>,
 }
 
 /// A record that is not accepted, and why.
@@ -48,7 +51,22 @@ pub fn verdict_on<'a>(
             nodes: rule.received.nodes.len(),
             readings: rule.received.readings,
             type_words: in_words(heap, &types[..count])?,
+            unused: unused_readings(heap, &rule)?,
         })),
         Err(fault) => Ok(Err(Refused { record, fault })),
     }
+}
+
+/// The readings that no node of a rule reads.
+pub fn unused_readings(heap: Global, rule: &Rule) -> Result<Vec<usize>, AllocError> {
+    let mut unused = Vec::new(heap);
+    for reading in 0..rule.received.readings {
+        let is_read = rule.received.nodes.iter().any(
+            |node| matches!(*node, Node::Reading(read) if usize::from(read) == reading),
+        );
+        if !is_read {
+            unused.push(reading)?;
+        }
+    }
+    Ok(unused)
 }

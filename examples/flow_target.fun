@@ -1,3 +1,4 @@
+# readings: outside
 let heat = fun limit -> fun level ->
   if outside <= limit then level else 0
 in

@@ -1,1 +1,0 @@
-if 80 <= coil then 1 else 0

@@ -1,0 +1,2 @@
+# readings: coil
+if coil then 1 else 0
