@@ -49,7 +49,7 @@ fn handle_and<'a>(text: &'a str, handles: &[u32]) -> Result<(u32, &'a str), Trou
 
 /// The handle that was answered as the so-many-th, from 1, and 0 itself; one that has no list where there is none.
 fn handle_at(handles: &[u32], order: usize) -> u32 {
-    // Kept: a line may ask for a handle that was never answered, and it is the store that is to refuse it.
+    // A line may ask for a handle that was never answered, and it is the store that is to refuse it.
     order
         .checked_sub(1)
         .map_or(0, |at| handles.get(at).copied().unwrap_or(u32::MAX))

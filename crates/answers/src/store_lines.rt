@@ -79,7 +79,7 @@ fn answer_call<S: Store<Elem = Value>>(
             Ok(Ok(Answer::Cleared))
         }
         Call::Free => Ok(Ok(Answer::Free(store.free()))),
-        // Kept: to keep the handle may fail for want of memory, and what `map` calls takes no `?` along.
+        // To keep the handle may fail for want of memory, and what `map` calls takes no `?` along.
         Call::Extend { handle, value } => match store.extend(handle, Value::Number(value)) {
             Ok(handle) => {
                 handles.push(handle)?;

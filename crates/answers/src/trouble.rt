@@ -35,7 +35,7 @@ pub enum Trouble {
     Refused(Refused),
 }
 
-// Kept: a trait of the faults, with its two functions and an impl for each of three, would save two bodies of two lines.
+// A trait of the faults, with its two functions and an impl for each of three, would save two bodies of two lines.
 impl From<NameFault> for Refused {
     fn from(fault: NameFault) -> Refused {
         Refused {

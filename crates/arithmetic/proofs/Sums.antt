@@ -1,4 +1,4 @@
--- Which sum was told. Assumes nothing.
+-- Which sum was told.
 use Rattle.std.proofs.Common.{◌≡◌, ℕ, ℤ, Ok, Err, refl, ap, arith}
 use Rattle.calculus.specs.Range.{Sum, within, out_of_range}
 use Rattle.arithmetic.specs.declared.OutOfRange.{OutOfRange}

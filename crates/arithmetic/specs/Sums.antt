@@ -1,4 +1,4 @@
--- A sum as the code tells it. Assumes nothing.
+-- A sum as the code tells it.
 use Rattle.std.specs.Prelude.{ℤ, Result, Ok, Err}
 use Rattle.calculus.specs.Range.{Sum, within, out_of_range}
 use Rattle.arithmetic.specs.declared.OutOfRange.{OutOfRange}

@@ -1,4 +1,4 @@
--- What a book says of a name. Assumes nothing.
+-- What a book says of a name.
 use Rattle.std.proofs.Common.{◌≡◌, ◌≤◌, length, arith}
 use lib.ListN.{length-map}
 use Rattle.book.specs.Books.{names}

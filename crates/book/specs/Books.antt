@@ -1,5 +1,6 @@
--- What a names book holds, and which names it takes. Assumes nothing.
-use Rattle.std.specs.Prelude.{◌≡◌, ℕ, Bool, true, false, ◌&&◌, List, [], ◌∷◌, ◌++◌, map, length, Some, None, Ok, Err, Option, Result, nat_le, nat_lt}
+-- What a names book holds, and which names it takes.
+use Rattle.std.specs.Prelude.{◌≡◌, ℕ, Bool, true, false, ◌&&◌, List, [], ◌∷◌, ◌++◌, map, length, Some, None, Ok, Err}
+use Rattle.std.specs.Prelude.{Option, Result, nat_le, nat_lt}
 use Rattle.std.proofs.Math.Option.{some, none}
 use Rattle.std.proofs.Math.Option as Lookup
 use Rattle.grammar.specs.Names.{distance}
@@ -33,7 +34,8 @@ abbrev pub Why : List plain.Name → plain.Name → NameFault → Type 0
 Why xs x Full = nat_lt (length xs) 8 ≡ false
 Why xs x NoName = (nat_lt (length xs) 8 ≡ true) × (named (token x) ≡ false)
 Why xs x TooLong = (nat_lt (length xs) 8 ≡ true) × (named (token x) ≡ true) × (nat_le (length x) 32 ≡ false)
-Why xs x Taken = (nat_lt (length xs) 8 ≡ true) × (named (token x) ≡ true) × (nat_le (length x) 32 ≡ true) × (absent (distance xs x) ≡ false)
+Why xs x Taken = (nat_lt (length xs) 8 ≡ true) × (named (token x) ≡ true) × (nat_le (length x) 32 ≡ true)
+    × (absent (distance xs x) ≡ false)
 
 -- a name that was taken stands last; any other leaves the book
 abbrev pub Added : List plain.Name → List plain.Name → plain.Name → Result (Unit {0}) NameFault → Type 0

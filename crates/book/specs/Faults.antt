@@ -1,4 +1,4 @@
--- The number and the place of each refusal of a name. Assumes nothing.
+-- The number and the place of each refusal of a name.
 use Rattle.std.specs.Prelude.{ℕ}
 use Rattle.book.specs.declared.fault.NameFault.{NameFault}
 use Rattle.book.specs.declared.fault.NameFault.TheVariants.{Full, NoName, TooLong, Taken}

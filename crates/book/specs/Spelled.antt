@@ -1,4 +1,4 @@
--- What a copied name spells. Assumes nothing.
+-- What a copied name spells.
 use Rattle.std.specs.Prelude.{◌≡◌, ℕ, ◌<◌, ◌≤◌, List, length, Ok, Err, Result}
 use Rattle.grammar.specs.Token as plain
 use Rattle.book.specs.declared.fault.NameFault.{NameFault}

@@ -36,7 +36,7 @@ impl Name {
 }
 
 /// Whether two names are equal.
-// Kept: it is public, and lookups are proved of `same`, to which each `==` would have to be joined.
+// It is public, and lookups are proved of `same`, to which each `==` would have to be joined.
 pub fn same_bytes(a: &[u8], b: &[u8]) -> bool
     ensures { result ≡ same a.now b.now }
 {

@@ -1,4 +1,4 @@
--- Types node by node are the types of terms. Assumes nothing.
+-- Types node by node are the types of terms.
 use mathlib.Core.Bool.{cond}
 use mathlib.Core.List.{List, ◌∷◌}
 use mathlib.Core.Path.{◌≡◌, refl, sym, ◌∙◌, ap, subst}
@@ -7,7 +7,8 @@ use lib.Dec.{ltb}
 use lib.ListN.{replicate}
 use native.Mathlib.Omega.{arith}
 use Prim.Native.Nat.{ℕ, suc, ◌+◌, ◌≤◌, ◌<◌}
-use Rattle.syntax.specs.Tree.{Tree, number, truth, variable, function, application, let_in, sum, at_most, if_else, nodes}
+use Rattle.syntax.specs.Tree.{Tree, number, truth, variable, function, application, let_in, sum, at_most, if_else}
+use Rattle.syntax.specs.Tree.{nodes}
 use Rattle.calculus.specs.Term.{numbered}
 use Rattle.calculus.specs.Types.{Ty, int, bool, ◌⇒◌, Has, RuleHas}
 use Rattle.calculus.specs.Conditions.{Assignment, Met, Meets}
@@ -28,12 +29,18 @@ nodes_pos (if_else c t e) = omega arith
 
 -- an assignment that meets all conditions gives a type
 
-pub met_has : (a : Assignment) (Γ : List Ty) (k i : ℕ) (t : Tree) → i + nodes t ≤ suc k → Met a Γ k i t → Has Γ (numbered i t) (a.type_of i)
+pub met_has : (a : Assignment) (Γ : List Ty) (k i : ℕ) (t : Tree) → i + nodes t ≤ suc k → Met a Γ k i t
+    → Has Γ (numbered i t) (a.type_of i)
 met_has a Γ k i (number n) h m = m (omega arith)
 met_has a Γ k i (truth b) h m = m (omega arith)
 met_has a Γ k i (variable d) h m = m (omega arith)
-met_has a Γ k i (function b) h m =
-    (a.parameter_of i, a.type_of (i + 1), m.0 (omega arith), met_has a (a.parameter_of i ∷ Γ) k (i + 1) b (omega arith) m.1)
+met_has a Γ k i (function b) h m = (
+  a.parameter_of i,
+  a.type_of (i + 1),
+  m.0 (omega arith),
+  met_has a (a.parameter_of i ∷ Γ) k (i + 1) b
+      (omega arith) m.1,
+)
 met_has a Γ k i (application f x) h m = (
   a.type_of (i + (1 + nodes f)),
   subst (λ τ. Has Γ (numbered (i + 1) f) τ) (m.0 (omega arith)) (met_has a Γ k (i + 1) f (omega arith) m.1),
@@ -49,18 +56,21 @@ met_has a Γ k i (sum l r) h m =
     let own = m.0 (omega arith) in (
       own.0,
       subst (λ τ. Has Γ (numbered (i + 1) l) τ) own.1 (met_has a Γ k (i + 1) l (omega arith) m.1),
-      subst (λ τ. Has Γ (numbered (i + (1 + nodes l)) r) τ) own.2 (met_has a Γ k (i + (1 + nodes l)) r (omega arith) m.2),
+      subst (λ τ. Has Γ (numbered (i + (1 + nodes l)) r) τ) own.2 (met_has a Γ k (i + (1 + nodes l)) r
+          (omega arith) m.2),
     )
 met_has a Γ k i (at_most l r) h m =
     let own = m.0 (omega arith) in (
       own.0,
       subst (λ τ. Has Γ (numbered (i + 1) l) τ) own.1 (met_has a Γ k (i + 1) l (omega arith) m.1),
-      subst (λ τ. Has Γ (numbered (i + (1 + nodes l)) r) τ) own.2 (met_has a Γ k (i + (1 + nodes l)) r (omega arith) m.2),
+      subst (λ τ. Has Γ (numbered (i + (1 + nodes l)) r) τ) own.2 (met_has a Γ k (i + (1 + nodes l)) r
+          (omega arith) m.2),
     )
 met_has a Γ k i (if_else c t e) h m =
     let own = m.0 (omega arith) in (
       subst (λ τ. Has Γ (numbered (i + 1) c) τ) own.0 (met_has a Γ k (i + 1) c (omega arith) m.1),
-      subst (λ τ. Has Γ (numbered (i + (1 + nodes c)) t) τ) own.1 (met_has a Γ k (i + (1 + nodes c)) t (omega arith) m.2),
+      subst (λ τ. Has Γ (numbered (i + (1 + nodes c)) t) τ) own.1 (met_has a Γ k (i + (1 + nodes c)) t
+          (omega arith) m.2),
       subst (λ τ. Has Γ (numbered (i + (1 + (nodes c + nodes t))) e) τ) own.2
           (met_has a Γ k (i + (1 + (nodes c + nodes t))) e (omega arith) m.3),
     )
@@ -72,15 +82,35 @@ pub met_not_yet : (a : Assignment) (Γ : List Ty) (k i : ℕ) (t : Tree) → k <
 met_not_yet a Γ k i (number n) h = λ q. absurd (omega arith)
 met_not_yet a Γ k i (truth b) h = λ q. absurd (omega arith)
 met_not_yet a Γ k i (variable d) h = λ q. absurd (omega arith)
-met_not_yet a Γ k i (function b) h = ((λ q. absurd (omega arith)), met_not_yet a (a.parameter_of i ∷ Γ) k (i + 1) b (omega arith))
-met_not_yet a Γ k i (application f x) h =
-    ((λ q. absurd (omega arith)), met_not_yet a Γ k (i + 1) f (omega arith), met_not_yet a Γ k (i + (1 + nodes f)) x (omega arith))
-met_not_yet a Γ k i (let_in e b) h =
-    ((λ q. absurd (omega arith)), met_not_yet a Γ k (i + 1) e (omega arith), met_not_yet a (a.type_of (i + 1) ∷ Γ) k (i + (1 + nodes e)) b (omega arith))
-met_not_yet a Γ k i (sum l r) h =
-    ((λ q. absurd (omega arith)), met_not_yet a Γ k (i + 1) l (omega arith), met_not_yet a Γ k (i + (1 + nodes l)) r (omega arith))
-met_not_yet a Γ k i (at_most l r) h =
-    ((λ q. absurd (omega arith)), met_not_yet a Γ k (i + 1) l (omega arith), met_not_yet a Γ k (i + (1 + nodes l)) r (omega arith))
+met_not_yet a Γ k i (function b) h = (
+  (λ q. absurd (omega arith)),
+  met_not_yet a (a.parameter_of i ∷ Γ) k (i + 1) b
+      (omega arith),
+)
+met_not_yet a Γ k i (application f x) h = (
+  (λ q. absurd (omega arith)),
+  met_not_yet a Γ k (i + 1) f (omega arith),
+  met_not_yet a Γ k (i + (1 + nodes f)) x
+      (omega arith),
+)
+met_not_yet a Γ k i (let_in e b) h = (
+  (λ q. absurd (omega arith)),
+  met_not_yet a Γ k (i + 1) e (omega arith),
+  met_not_yet a (a.type_of (i + 1) ∷ Γ) k
+      (i + (1 + nodes e)) b (omega arith),
+)
+met_not_yet a Γ k i (sum l r) h = (
+  (λ q. absurd (omega arith)),
+  met_not_yet a Γ k (i + 1) l (omega arith),
+  met_not_yet a Γ k (i + (1 + nodes l)) r
+      (omega arith),
+)
+met_not_yet a Γ k i (at_most l r) h = (
+  (λ q. absurd (omega arith)),
+  met_not_yet a Γ k (i + 1) l (omega arith),
+  met_not_yet a Γ k (i + (1 + nodes l)) r
+      (omega arith),
+)
 met_not_yet a Γ k i (if_else c t e) h = (
   (λ q. absurd (omega arith)),
   met_not_yet a Γ k (i + 1) c (omega arith),
@@ -89,12 +119,16 @@ met_not_yet a Γ k i (if_else c t e) h = (
 )
 
 -- what is met up to node l is met up to each node k of the tree that is at most l; and beyond the tree nothing is asked
-pub met_up_to : (a : Assignment) (Γ : List Ty) (k l i : ℕ) (t : Tree) → ((n : ℕ) → n < i + nodes t → n ≤ k → n ≤ l) → Met a Γ l i t → Met a Γ k i t
+pub met_up_to : (a : Assignment) (Γ : List Ty) (k l i : ℕ) (t : Tree) → ((n : ℕ) → n < i + nodes t → n ≤ k → n ≤ l)
+    → Met a Γ l i t → Met a Γ k i t
 met_up_to a Γ k l i (number n) h m = λ q. m (h i (omega arith) q)
 met_up_to a Γ k l i (truth b) h m = λ q. m (h i (omega arith) q)
 met_up_to a Γ k l i (variable d) h m = λ q. m (h i (omega arith) q)
-met_up_to a Γ k l i (function b) h m =
-    ((λ q. m.0 (h i (omega arith) q)), met_up_to a (a.parameter_of i ∷ Γ) k l (i + 1) b (λ n p q. h n (omega arith) q) m.1)
+met_up_to a Γ k l i (function b) h m = (
+  (λ q. m.0 (h i (omega arith) q)),
+  met_up_to a (a.parameter_of i ∷ Γ) k l (i + 1) b (λ n p q. h n (omega arith) q)
+      m.1,
+)
 met_up_to a Γ k l i (application f x) h m = (
   (λ q. m.0 (h i (omega arith) q)),
   met_up_to a Γ k l (i + 1) f (λ n p q. h n (omega arith) q) m.1,
@@ -135,7 +169,8 @@ narrower a b i j k l g h r =
       parameters = λ n p q. r.parameters n (omega arith) (omega arith);
     }
 
-pub met_agree : (a b : Assignment) (Γ : List Ty) (k i : ℕ) (t : Tree) → Agree a b i (i + nodes t) → Met a Γ k i t → Met b Γ k i t
+pub met_agree : (a b : Assignment) (Γ : List Ty) (k i : ℕ) (t : Tree) → Agree a b i (i + nodes t) → Met a Γ k i t
+    → Met b Γ k i t
 met_agree a b Γ k i (number n) r m = λ h. let p = r.types i (omega arith) (omega arith) in let q = m h in cc
 met_agree a b Γ k i (truth x) r m = λ h. let p = r.types i (omega arith) (omega arith) in let q = m h in cc
 met_agree a b Γ k i (variable d) r m = λ h. let p = r.types i (omega arith) (omega arith) in let q = m h in cc
@@ -147,7 +182,8 @@ met_agree a b Γ k i (function x) r m = (
       let u = m.0 h in
       cc,
   subst (λ p. Met b (p ∷ Γ) k (i + 1) x) (r.parameters i (omega arith) (omega arith))
-      (met_agree a b (a.parameter_of i ∷ Γ) k (i + 1) x (narrower a b i (i + (1 + nodes x)) (i + 1) (i + 1 + nodes x) (omega arith) (omega arith) r) m.1),
+      (met_agree a b (a.parameter_of i ∷ Γ) k (i + 1) x (narrower a b i (i + (1 + nodes x)) (i + 1) (i + 1 + nodes x)
+      (omega arith) (omega arith) r) m.1),
 )
 met_agree a b Γ k i (application f x) r m = (
   λ h.
@@ -156,8 +192,10 @@ met_agree a b Γ k i (application f x) r m = (
       let s = r.types (i + (1 + nodes f)) (omega arith) (omega (arith, nodes_pos x)) in
       let u = m.0 h in
       cc,
-  met_agree a b Γ k (i + 1) f (narrower a b i (i + (1 + (nodes f + nodes x))) (i + 1) (i + 1 + nodes f) (omega arith) (omega arith) r) m.1,
-  met_agree a b Γ k (i + (1 + nodes f)) x (narrower a b i (i + (1 + (nodes f + nodes x))) (i + (1 + nodes f)) (i + (1 + nodes f) + nodes x) (omega arith) (omega arith) r) m.2,
+  met_agree a b Γ k (i + 1) f (narrower a b i (i + (1 + (nodes f + nodes x))) (i + 1) (i + 1 + nodes f) (omega arith)
+      (omega arith) r) m.1,
+  met_agree a b Γ k (i + (1 + nodes f)) x (narrower a b i (i + (1 + (nodes f + nodes x))) (i + (1 + nodes f))
+      (i + (1 + nodes f) + nodes x) (omega arith) (omega arith) r) m.2,
 )
 met_agree a b Γ k i (let_in e x) r m = (
   λ h.
@@ -165,9 +203,11 @@ met_agree a b Γ k i (let_in e x) r m = (
       let s = r.types (i + (1 + nodes e)) (omega arith) (omega (arith, nodes_pos x)) in
       let u = m.0 h in
       cc,
-  met_agree a b Γ k (i + 1) e (narrower a b i (i + (1 + (nodes e + nodes x))) (i + 1) (i + 1 + nodes e) (omega arith) (omega arith) r) m.1,
+  met_agree a b Γ k (i + 1) e (narrower a b i (i + (1 + (nodes e + nodes x))) (i + 1) (i + 1 + nodes e) (omega arith)
+      (omega arith) r) m.1,
   subst (λ p. Met b (p ∷ Γ) k (i + (1 + nodes e)) x) (r.types (i + 1) (omega arith) (omega (arith, nodes_pos e)))
-      (met_agree a b (a.type_of (i + 1) ∷ Γ) k (i + (1 + nodes e)) x (narrower a b i (i + (1 + (nodes e + nodes x))) (i + (1 + nodes e)) (i + (1 + nodes e) + nodes x) (omega arith) (omega arith) r) m.2),
+      (met_agree a b (a.type_of (i + 1) ∷ Γ) k (i + (1 + nodes e)) x (narrower a b i (i + (1 + (nodes e + nodes x)))
+      (i + (1 + nodes e)) (i + (1 + nodes e) + nodes x) (omega arith) (omega arith) r) m.2),
 )
 met_agree a b Γ k i (sum l x) r m = (
   λ h.
@@ -176,8 +216,10 @@ met_agree a b Γ k i (sum l x) r m = (
       let s = r.types (i + (1 + nodes l)) (omega arith) (omega (arith, nodes_pos x)) in
       let u = m.0 h in
       (sym p ∙ u.0, sym q ∙ u.1, sym s ∙ u.2),
-  met_agree a b Γ k (i + 1) l (narrower a b i (i + (1 + (nodes l + nodes x))) (i + 1) (i + 1 + nodes l) (omega arith) (omega arith) r) m.1,
-  met_agree a b Γ k (i + (1 + nodes l)) x (narrower a b i (i + (1 + (nodes l + nodes x))) (i + (1 + nodes l)) (i + (1 + nodes l) + nodes x) (omega arith) (omega arith) r) m.2,
+  met_agree a b Γ k (i + 1) l (narrower a b i (i + (1 + (nodes l + nodes x))) (i + 1) (i + 1 + nodes l) (omega arith)
+      (omega arith) r) m.1,
+  met_agree a b Γ k (i + (1 + nodes l)) x (narrower a b i (i + (1 + (nodes l + nodes x))) (i + (1 + nodes l))
+      (i + (1 + nodes l) + nodes x) (omega arith) (omega arith) r) m.2,
 )
 met_agree a b Γ k i (at_most l x) r m = (
   λ h.
@@ -186,8 +228,10 @@ met_agree a b Γ k i (at_most l x) r m = (
       let s = r.types (i + (1 + nodes l)) (omega arith) (omega (arith, nodes_pos x)) in
       let u = m.0 h in
       (sym p ∙ u.0, sym q ∙ u.1, sym s ∙ u.2),
-  met_agree a b Γ k (i + 1) l (narrower a b i (i + (1 + (nodes l + nodes x))) (i + 1) (i + 1 + nodes l) (omega arith) (omega arith) r) m.1,
-  met_agree a b Γ k (i + (1 + nodes l)) x (narrower a b i (i + (1 + (nodes l + nodes x))) (i + (1 + nodes l)) (i + (1 + nodes l) + nodes x) (omega arith) (omega arith) r) m.2,
+  met_agree a b Γ k (i + 1) l (narrower a b i (i + (1 + (nodes l + nodes x))) (i + 1) (i + 1 + nodes l) (omega arith)
+      (omega arith) r) m.1,
+  met_agree a b Γ k (i + (1 + nodes l)) x (narrower a b i (i + (1 + (nodes l + nodes x))) (i + (1 + nodes l))
+      (i + (1 + nodes l) + nodes x) (omega arith) (omega arith) r) m.2,
 )
 met_agree a b Γ k i (if_else c t e) r m = (
   λ h.
@@ -197,9 +241,12 @@ met_agree a b Γ k i (if_else c t e) r m = (
       let v = r.types (i + (1 + (nodes c + nodes t))) (omega arith) (omega (arith, nodes_pos e)) in
       let u = m.0 h in
       (sym q ∙ u.0, sym s ∙ (u.1 ∙ p), sym v ∙ (u.2 ∙ p)),
-  met_agree a b Γ k (i + 1) c (narrower a b i (i + (1 + (nodes c + (nodes t + nodes e)))) (i + 1) (i + 1 + nodes c) (omega arith) (omega arith) r) m.1,
-  met_agree a b Γ k (i + (1 + nodes c)) t (narrower a b i (i + (1 + (nodes c + (nodes t + nodes e)))) (i + (1 + nodes c)) (i + (1 + nodes c) + nodes t) (omega arith) (omega arith) r) m.2,
-  met_agree a b Γ k (i + (1 + (nodes c + nodes t))) e (narrower a b i (i + (1 + (nodes c + (nodes t + nodes e)))) (i + (1 + (nodes c + nodes t))) (i + (1 + (nodes c + nodes t)) + nodes e) (omega arith) (omega arith) r) m.3,
+  met_agree a b Γ k (i + 1) c (narrower a b i (i + (1 + (nodes c + (nodes t + nodes e)))) (i + 1) (i + 1 + nodes c)
+      (omega arith) (omega arith) r) m.1,
+  met_agree a b Γ k (i + (1 + nodes c)) t (narrower a b i (i + (1 + (nodes c + (nodes t + nodes e))))
+      (i + (1 + nodes c)) (i + (1 + nodes c) + nodes t) (omega arith) (omega arith) r) m.2,
+  met_agree a b Γ k (i + (1 + (nodes c + nodes t))) e (narrower a b i (i + (1 + (nodes c + (nodes t + nodes e))))
+      (i + (1 + (nodes c + nodes t))) (i + (1 + (nodes c + nodes t)) + nodes e) (omega arith) (omega arith) r) m.3,
 )
 
 -- two assignments, one for the nodes below m and one for the others
@@ -245,7 +292,8 @@ root_parameter i τ p a = ap (λ x. cond x p (a.parameter_of i)) (lt-ltb i (i + 
 below_root : (i : ℕ) (τ p : Ty) (a : Assignment) (n : ℕ) → i + 1 ≤ n → (rooted i τ p a).type_of n ≡ a.type_of n
 below_root i τ p a n h = ap (λ x. cond x τ (a.type_of n)) (le-ltb n (i + 1) h)
 
-leaf : (Γ : List Ty) (i : ℕ) (t : Tree) (τ : Ty) → ((k : ℕ) → Met (record { type_of = λ n. τ; parameter_of = λ n. τ }) Γ k i t) → Found Γ i t τ
+leaf : (Γ : List Ty) (i : ℕ) (t : Tree) (τ : Ty)
+    → ((k : ℕ) → Met (record { type_of = λ n. τ; parameter_of = λ n. τ }) Γ k i t) → Found Γ i t τ
 leaf Γ i t τ m = record { assigned = record { type_of = λ n. τ; parameter_of = λ n. τ }; at_root = refl; met = m }
 
 -- two children of a node at i
@@ -256,7 +304,8 @@ record Children (Γ Δ : List Ty) (i : ℕ) (l r : Tree) (σ ρ : Ty) : Type 0 w
   left_met : (k : ℕ) → Met assigned Γ k (i + 1) l
   right_met : (k : ℕ) → Met assigned Δ k (i + (1 + nodes l)) r
 
-children : (Γ Δ : List Ty) (i : ℕ) (l r : Tree) (σ ρ : Ty) → Found Γ (i + 1) l σ → Found Δ (i + (1 + nodes l)) r ρ → Children Γ Δ i l r σ ρ
+children : (Γ Δ : List Ty) (i : ℕ) (l r : Tree) (σ ρ : Ty) → Found Γ (i + 1) l σ → Found Δ (i + (1 + nodes l)) r ρ
+    → Children Γ Δ i l r σ ρ
 children Γ Δ i l r σ ρ f g =
     let m = i + (1 + nodes l) in
     let a = f.assigned in
@@ -265,15 +314,18 @@ children Γ Δ i l r σ ρ f g =
       assigned = join m a b;
       left_type = sym ((join_below m a b (i + 1)).types (i + 1) (omega arith) (omega (arith, nodes_pos l))) ∙ f.at_root;
       right_type = sym ((join_above m a b (m + 1)).types m (omega arith) (omega arith)) ∙ g.at_root;
-      left_met = λ k. met_agree a (join m a b) Γ k (i + 1) l (narrower a (join m a b) (i + 1) m (i + 1) (i + 1 + nodes l) (omega arith) (omega arith) (join_below m a b (i + 1))) (f.met k);
+      left_met = λ k. met_agree a (join m a b) Γ k (i + 1) l (narrower a (join m a b) (i + 1) m (i + 1)
+          (i + 1 + nodes l) (omega arith) (omega arith) (join_below m a b (i + 1))) (f.met k);
       right_met = λ k. met_agree b (join m a b) Δ k m r (join_above m a b (m + nodes r)) (g.met k);
     }
 
 -- the same assignment, with a root above it
-under_root : (i : ℕ) (τ p : Ty) (a : Assignment) (Γ : List Ty) (k j : ℕ) (t : Tree) → i + 1 ≤ j → Met a Γ k j t → Met (rooted i τ p a) Γ k j t
+under_root : (i : ℕ) (τ p : Ty) (a : Assignment) (Γ : List Ty) (k j : ℕ) (t : Tree) → i + 1 ≤ j → Met a Γ k j t
+    → Met (rooted i τ p a) Γ k j t
 under_root i τ p a Γ k j t h m =
     let r = rooted i τ p a in
-    met_agree a r Γ k j t (narrower a r (i + 1) (j + nodes t) j (j + nodes t) h (omega arith) (join_above (i + 1) (record { type_of = λ n. τ; parameter_of = λ n. p }) a (j + nodes t))) m
+    met_agree a r Γ k j t (narrower a r (i + 1) (j + nodes t) j (j + nodes t) h (omega arith)
+    (join_above (i + 1) (record { type_of = λ n. τ; parameter_of = λ n. p }) a (j + nodes t))) m
 
 has_met : (Γ : List Ty) (i : ℕ) (t : Tree) (τ : Ty) → Has Γ (numbered i t) τ → Found Γ i t τ
 has_met Γ i (number n) τ h = leaf Γ i (number n) τ (λ k q. h)
@@ -291,7 +343,8 @@ has_met Γ i (function b) τ (p, s, e, h) =
       at_root = own_type;
       met = λ k. (
         (λ q. cc),
-        subst (λ x. Met r (x ∷ Γ) k (i + 1) b) (sym own_parameter) (under_root i τ p a (p ∷ Γ) k (i + 1) b (omega arith) (f.met k)),
+        subst (λ x. Met r (x ∷ Γ) k (i + 1) b) (sym own_parameter) (under_root i τ p a (p ∷ Γ) k (i + 1) b
+            (omega arith) (f.met k)),
       );
     }
 has_met Γ i (application f x) τ (p, g, h) =
@@ -322,7 +375,8 @@ has_met Γ i (let_in e b) τ (p, g, h) =
       met = λ k. (
         (λ q. own_type ∙ sym right),
         under_root i τ int a Γ k (i + 1) e (omega arith) (c.left_met k),
-        subst (λ x. Met r (x ∷ Γ) k (i + (1 + nodes e)) b) (sym left) (under_root i τ int a (p ∷ Γ) k (i + (1 + nodes e)) b (omega arith) (c.right_met k)),
+        subst (λ x. Met r (x ∷ Γ) k (i + (1 + nodes e)) b) (sym left) (under_root i τ int a (p ∷ Γ) k
+            (i + (1 + nodes e)) b (omega arith) (c.right_met k)),
       );
     }
 has_met Γ i (sum l x) τ (e, g, h) =
@@ -363,14 +417,20 @@ has_met Γ i (if_else x t e) τ (g, h, j) =
     let b = f.assigned in
     let both = join m a b in
     let own_type = root_type i τ int both in
-    let first_type : both.type_of (i + 1) ≡ bool = sym ((join_below m a b 0).types (i + 1) (omega arith) (omega (arith, nodes_pos x))) ∙ c.left_type in
-    let second_type : both.type_of (i + (1 + nodes x)) ≡ τ = sym ((join_below m a b 0).types (i + (1 + nodes x)) (omega arith) (omega (arith, nodes_pos t))) ∙ c.right_type in
-    let third_type : both.type_of m ≡ τ = sym ((join_above m a b (m + 1)).types m (omega arith) (omega arith)) ∙ f.at_root in
+    let first_type : both.type_of (i + 1) ≡ bool = sym ((join_below m a b 0).types (i + 1) (omega arith)
+    (omega (arith, nodes_pos x))) ∙ c.left_type in
+    let second_type : both.type_of (i + (1 + nodes x)) ≡ τ = sym ((join_below m a b 0).types (i + (1 + nodes x))
+    (omega arith) (omega (arith, nodes_pos t))) ∙ c.right_type in
+    let third_type : both.type_of m ≡ τ = sym ((join_above m a b (m + 1)).types m (omega arith) (omega arith))
+    ∙ f.at_root in
     let first_met : (k : ℕ) → Met both Γ k (i + 1) x =
-    λ k. met_agree a both Γ k (i + 1) x (narrower a both 0 m (i + 1) (i + 1 + nodes x) (omega arith) (omega arith) (join_below m a b 0)) (c.left_met k) in
+    λ k. met_agree a both Γ k (i + 1) x (narrower a both 0 m (i + 1) (i + 1 + nodes x) (omega arith) (omega arith)
+    (join_below m a b 0)) (c.left_met k) in
     let second_met : (k : ℕ) → Met both Γ k (i + (1 + nodes x)) t =
-    λ k. met_agree a both Γ k (i + (1 + nodes x)) t (narrower a both 0 m (i + (1 + nodes x)) (i + (1 + nodes x) + nodes t) (omega arith) (omega arith) (join_below m a b 0)) (c.right_met k) in
-    let third_met : (k : ℕ) → Met both Γ k m e = λ k. met_agree b both Γ k m e (join_above m a b (m + nodes e)) (f.met k) in
+    λ k. met_agree a both Γ k (i + (1 + nodes x)) t (narrower a both 0 m (i + (1 + nodes x))
+    (i + (1 + nodes x) + nodes t) (omega arith) (omega arith) (join_below m a b 0)) (c.right_met k) in
+    let third_met : (k : ℕ) → Met both Γ k m e = λ k. met_agree b both Γ k m e (join_above m a b (m + nodes e))
+    (f.met k) in
     record {
       assigned = rooted i τ int both;
       at_root = own_type;
@@ -388,10 +448,13 @@ has_met Γ i (if_else x t e) τ (g, h, j) =
 
 -- the law
 
-conditions_type : (r : ℕ) (t : Tree) (τ : Ty) → ((a : Assignment) × (a.type_of 0 ≡ τ) × Meets r t (nodes t) a) → RuleHas r t τ
-conditions_type r t τ (a, e, m) = subst (λ x. RuleHas r t x) e (met_has a (replicate r int) (nodes t) 0 t (omega arith) m)
+conditions_type : (r : ℕ) (t : Tree) (τ : Ty) → ((a : Assignment) × (a.type_of 0 ≡ τ) × Meets r t (nodes t) a)
+    → RuleHas r t τ
+conditions_type r t τ (a, e, m) = subst (λ x. RuleHas r t x) e (met_has a (replicate r int) (nodes t) 0 t
+    (omega arith) m)
 
-pub type_conditions : (r : ℕ) (t : Tree) (τ : Ty) (k : ℕ) → RuleHas r t τ → (a : Assignment) × (a.type_of 0 ≡ τ) × Meets r t k a
+pub type_conditions : (r : ℕ) (t : Tree) (τ : Ty) (k : ℕ) → RuleHas r t τ → (a : Assignment) × (a.type_of 0 ≡ τ)
+    × Meets r t k a
 type_conditions r t τ k h = let f = has_met (replicate r int) 0 t τ h in (f.assigned, f.at_root, f.met k)
 
 pub typed_by_conditions : TypedByConditions

@@ -1,4 +1,4 @@
--- Every typed rule has a length. Assumes nothing.
+-- Every typed rule has a length.
 use mathlib.Core.Bool.{Bool, true, false, not, ◌&&◌}
 use mathlib.Core.List.{List, [], ◌∷◌, map}
 use mathlib.Core.Option.{some}
@@ -9,7 +9,8 @@ use lib.Signed.{le_z}
 use native.Mathlib.Decide.{ℕ_discrete}
 use native.Mathlib.Omega.{arith}
 use Prim.Native.Nat.{ℕ, zero, suc, ◌<◌}
-use Rattle.calculus.specs.Term.{Term, number, truth, variable, function, application, let_in, sum, at_most, if_else, numbered}
+use Rattle.calculus.specs.Term.{Term, number, truth, variable, function, application, let_in, sum, at_most, if_else}
+use Rattle.calculus.specs.Term.{numbered}
 use Rattle.calculus.specs.Substitution.{find, or_else, put, put_one, Closed}
 use Rattle.calculus.specs.Types.{Ty, int, bool, ◌⇒◌, unknown, at, Has}
 use Rattle.calculus.specs.Step.{Next, rests, beyond, to, first, right_left, step, apply, added, add, compare, choose}
@@ -75,7 +76,8 @@ sems_length [] (p ∷ Γ) h = absurd h
 sems_length (v ∷ vs) [] h = absurd h
 sems_length (v ∷ vs) (p ∷ Γ) h = ap suc (sems_length vs Γ h.1)
 
-sems_at : (vs : List Term) (Γ : List Ty) (d : ℕ) (τ : Ty) → Sems vs Γ → at Γ d ≡ some τ → (v : Term) × (find zero vs d ≡ some v) × Sem τ v
+sems_at : (vs : List Term) (Γ : List Ty) (d : ℕ) (τ : Ty) → Sems vs Γ → at Γ d ≡ some τ → (v : Term)
+    × (find zero vs d ≡ some v) × Sem τ v
 sems_at [] [] d τ h e = let z : ◌≡◌ {A = ℕ} 0 1 = cc in absurd (omega arith)
 sems_at [] (p ∷ Γ) d τ h e = absurd h
 sems_at (v ∷ vs) [] d τ h e = absurd h
@@ -87,13 +89,16 @@ sems_at (v ∷ vs) (p ∷ Γ) (suc d) τ h e = sems_at vs Γ d τ h.1 e
 runs_value : (τ : Ty) (t v : Term) → t ≡ v → Sem τ v → Runs (Sem τ) t
 runs_value τ t v e h = subst (λ x. Runs (Sem τ) x) (sym e) (done (sem_rests τ v h) h)
 
-runs_apply : (n : ℕ) (p τ : Ty) (f v : Term) → step v ≡ rests → Sem p v → Sem (p ⇒ τ) f → Runs (Sem τ) (application n f v)
+runs_apply : (n : ℕ) (p τ : Ty) (f v : Term) → step v ≡ rests → Sem p v → Sem (p ⇒ τ) f
+    → Runs (Sem τ) (application n f v)
 runs_apply n p τ f v e h (m, b, q, c, r) =
     subst (λ x. Runs (Sem τ) (application n x v)) (sym q)
     (goes (ap (λ x. right_left (application n) (function m b) v rests x (to (put_one v b))) e) (r v h))
 
-runs_add : (n : ℕ) (τ : Ty) (i j : ℤ) → τ ≡ int → (s : Sum) → sum_of i j ≡ s → Runs (Sem τ) (sum n (number i) (number j))
-runs_add n τ i j e (within k) q = goes (ap (λ x. added n x) q) (done refl (subst (λ x. Sem x (number k)) (sym e) (k, refl)))
+runs_add : (n : ℕ) (τ : Ty) (i j : ℤ) → τ ≡ int → (s : Sum) → sum_of i j ≡ s
+    → Runs (Sem τ) (sum n (number i) (number j))
+runs_add n τ i j e (within k) q = goes (ap (λ x. added n x) q)
+    (done refl (subst (λ x. Sem x (number k)) (sym e) (k, refl)))
 runs_add n τ i j e out_of_range q = leaves n (ap (λ x. added n x) q)
 
 runs_sum : (n : ℕ) (τ : Ty) (l r : Term) → τ ≡ int → Sem int l → Sem int r → Runs (Sem τ) (sum n l r)
@@ -105,9 +110,11 @@ runs_compare : (n : ℕ) (τ : Ty) (l r : Term) → τ ≡ bool → Sem int l �
 runs_compare n τ l r e (i, p) (j, q) =
     subst (λ x. Runs (Sem τ) (at_most n x r)) (sym p)
     (subst (λ x. Runs (Sem τ) (at_most n (number i) x)) (sym q)
-    (goes {t = at_most n (number i) (number j)} refl (done refl (subst (λ x. Sem x (truth (le_z i j))) (sym e) (le_z i j, refl)))))
+    (goes {t = at_most n (number i) (number j)} refl (done refl (subst (λ x. Sem x (truth (le_z i j))) (sym e)
+    (le_z i j, refl)))))
 
-runs_choose : (n : ℕ) (τ : Ty) (c t e : Term) → Runs (Sem τ) t → Runs (Sem τ) e → Sem bool c → Runs (Sem τ) (if_else n c t e)
+runs_choose : (n : ℕ) (τ : Ty) (c t e : Term) → Runs (Sem τ) t → Runs (Sem τ) e → Sem bool c
+    → Runs (Sem τ) (if_else n c t e)
 runs_choose n τ c t e h i (b, q) = subst (λ x. Runs (Sem τ) (if_else n x t e)) (sym q) (either b)
   where
     either : (b : Bool) → Runs (Sem τ) (if_else n (truth b) t e)
@@ -140,8 +147,10 @@ runs Γ vs (function n b) τ s (p, q, e, h) =
       n,
       put 1 vs b,
       refl,
-      put_closes (suc (length Γ)) 1 vs b (omega (arith, sems_length vs Γ s)) (sems_closed vs Γ s) (has_closed (p ∷ Γ) b q h),
-      λ w i. subst (λ x. Runs (Sem q) x) (sym (put_put zero w vs b (sems_closed vs Γ s))) (runs (p ∷ Γ) (w ∷ vs) b q (i, s) h),
+      put_closes (suc (length Γ)) 1 vs b (omega (arith, sems_length vs Γ s)) (sems_closed vs Γ s)
+          (has_closed (p ∷ Γ) b q h),
+      λ w i. subst (λ x. Runs (Sem q) x) (sym (put_put zero w vs b (sems_closed vs Γ s)))
+          (runs (p ∷ Γ) (w ∷ vs) b q (i, s) h),
     ))
 runs Γ vs (application n f a) τ s (p, h, i) =
     runs_operands (application n) (λ l r. apply (body_of l) r) (λ l r. refl) (λ l r e u v. runs_apply n p τ l r e v u)
@@ -155,10 +164,12 @@ runs Γ vs (sum n l r) τ s (e, h, i) =
     runs_operands (sum n) (λ l r. add n (number_of l) (number_of r)) (λ l r. refl) (λ l r f u v. runs_sum n τ l r e u v)
     (runs Γ vs l int s h) (runs Γ vs r int s i)
 runs Γ vs (at_most n l r) τ s (e, h, i) =
-    runs_operands (at_most n) (λ l r. compare (number_of l) (number_of r)) (λ l r. refl) (λ l r f u v. runs_compare n τ l r e u v)
+    runs_operands (at_most n) (λ l r. compare (number_of l) (number_of r)) (λ l r. refl)
+    (λ l r f u v. runs_compare n τ l r e u v)
     (runs Γ vs l int s h) (runs Γ vs r int s i)
 runs Γ vs (if_else n c t e) τ s (h, i, j) =
-    bind (λ y. if_else n y (put zero vs t) (put zero vs e)) (λ y. choose (truth_of y) (put zero vs t) (put zero vs e)) (λ y. refl)
+    bind (λ y. if_else n y (put zero vs t) (put zero vs e)) (λ y. choose (truth_of y) (put zero vs t) (put zero vs e))
+    (λ y. refl)
     (λ v r w. runs_choose n τ v (put zero vs t) (put zero vs e) (runs Γ vs t τ s i) (runs Γ vs e τ s j) w)
     (runs Γ vs c bool s h)
 
@@ -207,7 +218,8 @@ one_length t m n k l =
 pub has_length : HasLength
 has_length =
     record {
-      some_length = λ t τ readings h. runs_length (runs (replicate (length readings) int) (map number readings) (numbered 0 t) τ (readings_sems readings) h);
+      some_length = λ t τ readings h. runs_length (runs (replicate (length readings) int) (map number readings)
+          (numbered 0 t) τ (readings_sems readings) h);
       one_length = one_length;
     }
 

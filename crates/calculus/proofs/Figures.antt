@@ -1,4 +1,4 @@
--- The worked figures, by computation. Assumes nothing.
+-- The worked figures, by computation.
 use mathlib.Core.List.{List}
 use mathlib.Core.Bool.{true}
 use mathlib.Core.Option.{some}
@@ -16,7 +16,8 @@ use Rattle.calculus.specs.Figures.{Gives, Figures, identity, itself, no_function
 use Rattle.calculus.proofs.Ending.{none_before, length_computed}
 
 pub gives : (readings : List ℤ) (t : Tree) (n : ℕ) (a : Answer) →
-    over (stage n (start readings t)) ≡ true → none_before n (start readings t) ≡ true → answer (stage n (start readings t)) ≡ some a → Gives readings t n a
+    over (stage n (start readings t)) ≡ true → none_before n (start readings t) ≡ true
+    → answer (stage n (start readings t)) ≡ some a → Gives readings t n a
 gives readings t n a e f g = record { length = length_computed n (start readings t) e f; answers = g }
 
 -- no type is its own side

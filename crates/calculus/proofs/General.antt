@@ -1,4 +1,4 @@
--- A spelling tells the types of a rule, and no more. Assumes nothing.
+-- A spelling tells the types of a rule, and no more.
 use mathlib.Core.Bool.{Bool, true, false, cond}
 use mathlib.Core.List.{List, [], ◌∷◌, ◌++◌, append_assoc, append-nil}
 use mathlib.Core.Option.{some}
@@ -9,7 +9,8 @@ use lib.ListN.{replicate}
 use native.Mathlib.Omega.{arith}
 use Prim.Native.Nat.{ℕ, zero, suc, ◌+◌}
 use Rattle.syntax.specs.Tree.{Tree}
-use Rattle.calculus.specs.Term.{Term, number, truth, variable, function, application, let_in, sum, at_most, if_else, numbered}
+use Rattle.calculus.specs.Term.{Term, number, truth, variable, function, application, let_in, sum, at_most, if_else}
+use Rattle.calculus.specs.Term.{numbered}
 use Rattle.calculus.specs.Types.{Ty, int, bool, ◌⇒◌, unknown, at, Has, RuleHas}
 use Rattle.calculus.specs.General.{put_types, ComesFrom, MostGeneral, place, note, noted, renumbered, written, spelling}
 use Rattle.calculus.specs.Laws.{SpellingTells}
@@ -20,7 +21,8 @@ abbrev pub put_all : (ℕ → Ty) → List Ty → List Ty
 put_all θ [] = []
 put_all θ (p ∷ Γ) = put_types θ p ∷ put_all θ Γ
 
-pub at_put_all : (θ : ℕ → Ty) (Γ : List Ty) (d : ℕ) (τ : Ty) → at Γ d ≡ some τ → at (put_all θ Γ) d ≡ some (put_types θ τ)
+pub at_put_all : (θ : ℕ → Ty) (Γ : List Ty) (d : ℕ) (τ : Ty) → at Γ d ≡ some τ
+    → at (put_all θ Γ) d ≡ some (put_types θ τ)
 at_put_all θ [] d τ e = let z : ◌≡◌ {A = ℕ} 0 1 = cc in absurd (omega arith)
 at_put_all θ (p ∷ Γ) zero τ e = let q : p ≡ τ = cc in ap (λ x. some (put_types θ x)) q
 at_put_all θ (p ∷ Γ) (suc d) τ e = at_put_all θ Γ d τ e
@@ -31,11 +33,27 @@ has_put_types θ Γ (truth b) τ h = ap (λ x. put_types θ x) h
 has_put_types θ Γ (variable d) τ h = at_put_all θ Γ d τ h
 has_put_types θ Γ (function n b) τ (p, s, e, h) =
     (put_types θ p, put_types θ s, ap (λ x. put_types θ x) e, has_put_types θ (p ∷ Γ) b s h)
-has_put_types θ Γ (application n f a) τ (p, h, i) = (put_types θ p, has_put_types θ Γ f (p ⇒ τ) h, has_put_types θ Γ a p i)
+has_put_types θ Γ (application n f a) τ (p, h, i) = (
+  put_types θ p,
+  has_put_types θ Γ f (p ⇒ τ) h,
+  has_put_types θ Γ a p i,
+)
 has_put_types θ Γ (let_in n e b) τ (p, h, i) = (put_types θ p, has_put_types θ Γ e p h, has_put_types θ (p ∷ Γ) b τ i)
-has_put_types θ Γ (sum n l r) τ (e, h, i) = (ap (λ x. put_types θ x) e, has_put_types θ Γ l int h, has_put_types θ Γ r int i)
-has_put_types θ Γ (at_most n l r) τ (e, h, i) = (ap (λ x. put_types θ x) e, has_put_types θ Γ l int h, has_put_types θ Γ r int i)
-has_put_types θ Γ (if_else n c t e) τ (h, i, j) = (has_put_types θ Γ c bool h, has_put_types θ Γ t τ i, has_put_types θ Γ e τ j)
+has_put_types θ Γ (sum n l r) τ (e, h, i) = (
+  ap (λ x. put_types θ x) e,
+  has_put_types θ Γ l int h,
+  has_put_types θ Γ r int i,
+)
+has_put_types θ Γ (at_most n l r) τ (e, h, i) = (
+  ap (λ x. put_types θ x) e,
+  has_put_types θ Γ l int h,
+  has_put_types θ Γ r int i,
+)
+has_put_types θ Γ (if_else n c t e) τ (h, i, j) = (
+  has_put_types θ Γ c bool h,
+  has_put_types θ Γ t τ i,
+  has_put_types θ Γ e τ j,
+)
 
 pub put_all_readings : (θ : ℕ → Ty) (r : ℕ) → put_all θ (replicate r int) ≡ replicate r int
 put_all_readings θ zero = refl
@@ -43,7 +61,8 @@ put_all_readings θ (suc r) = ap (λ Γ. int ∷ Γ) (put_all_readings θ r)
 
 pub rule_has_put_types : (r : ℕ) (t : Tree) (τ : Ty) (θ : ℕ → Ty) → RuleHas r t τ → RuleHas r t (put_types θ τ)
 rule_has_put_types r t τ θ h =
-    subst (λ Γ. Has Γ (numbered 0 t) (put_types θ τ)) (put_all_readings θ r) (has_put_types θ (replicate r int) (numbered 0 t) τ h)
+    subst (λ Γ. Has Γ (numbered 0 t) (put_types θ τ)) (put_all_readings θ r) (has_put_types θ (replicate r int)
+    (numbered 0 t) τ h)
 
 what_comes : (r : ℕ) (t : Tree) (τ σ : Ty) → RuleHas r t τ → ComesFrom τ σ → RuleHas r t σ
 what_comes r t τ σ h (θ, e) = subst (λ x. RuleHas r t x) e (rule_has_put_types r t τ θ h)
@@ -55,7 +74,11 @@ put_types_twice θ φ (p ⇒ s) = let e = put_types_twice θ φ p in let f = put
 put_types_twice θ φ (unknown k) = refl
 
 comes_twice : (μ ν σ : Ty) → ComesFrom μ ν → ComesFrom ν σ → ComesFrom μ σ
-comes_twice μ ν σ (θ, e) (φ, f) = ((λ k. put_types φ (θ k)), sym (put_types_twice θ φ μ) ∙ ap (λ x. put_types φ x) e ∙ f)
+comes_twice μ ν σ (θ, e) (φ, f) = (
+  (λ k. put_types φ (θ k)),
+  sym (put_types_twice θ φ μ) ∙ ap (λ x. put_types φ x) e
+      ∙ f,
+)
 
 -- a renumbered type comes from its type, and its type from it
 
@@ -67,12 +90,16 @@ named (j ∷ seen) (suc k) = named seen k
 -- an unknown keeps its place once it is noted, and stands there
 
 abbrev Placed : ℕ → List ℕ → List ℕ → Type 0
-Placed k seen more = (place k (note k seen ++ more) ≡ place k seen) × (named (note k seen ++ more) (place k seen) ≡ unknown k)
+Placed k seen more = (place k (note k seen ++ more) ≡ place k seen)
+    × (named (note k seen ++ more) (place k seen) ≡ unknown k)
 
 placed_behind : (k j : ℕ) (seen more : List ℕ) (b : Bool) → eqb k j ≡ b → Placed k seen more →
     (place k (j ∷ (cond b seen (note k seen) ++ more)) ≡ cond b 0 (suc (place k seen))) ×
     (named (j ∷ (cond b seen (note k seen) ++ more)) (cond b 0 (suc (place k seen))) ≡ unknown k)
-placed_behind k j seen more true e h = (ap (λ x. cond x 0 (suc (place k (seen ++ more)))) e, ap unknown (sym (eqb-true k j e)))
+placed_behind k j seen more true e h = (
+  ap (λ x. cond x 0 (suc (place k (seen ++ more)))) e,
+  ap unknown (sym (eqb-true k j e)),
+)
 placed_behind k j seen more false e h = (ap (λ x. cond x 0 (suc (place k (note k seen ++ more)))) e ∙ ap suc h.0, h.1)
 
 placed : (k : ℕ) (seen more : List ℕ) → Placed k seen more
@@ -142,7 +169,8 @@ written-++ (p ⇒ s) int xs ys e = let z : ◌≡◌ {A = ℕ} 2 0 = cc in absur
 written-++ (p ⇒ s) bool xs ys e = let z : ◌≡◌ {A = ℕ} 2 1 = cc in absurd (omega arith)
 written-++ (p ⇒ s) (q ⇒ u) xs ys e =
     let tails : (written p ++ written s) ++ xs ≡ (written q ++ written u) ++ ys = cc in
-    let h = written-++ p q (written s ++ xs) (written u ++ ys) (sym (append_assoc (written p) (written s) xs) ∙ tails ∙ append_assoc (written q) (written u) ys) in
+    let h = written-++ p q (written s ++ xs) (written u ++ ys) (sym (append_assoc (written p) (written s) xs) ∙ tails
+    ∙ append_assoc (written q) (written u) ys) in
     let i = written-++ s u xs ys h.1 in
     let e₀ = h.0 in
     let e₁ = i.0 in
@@ -192,25 +220,29 @@ module _ (θ φ : ℕ → Ty) where
   alike k j [] (m ∷ js) g h = absurd h
   alike k j (l ∷ ks) [] g h = absurd h
   alike k j (l ∷ ks) (m ∷ js) g h =
-      subst (λ c. (cond (eqb k l) 0 (suc (place k ks)) ≡ cond c 0 (suc (place j js))) × AllMatched (l ∷ cond (eqb k l) ks (note k ks)) (m ∷ cond c js (note j js)))
+      subst (λ c. (cond (eqb k l) 0 (suc (place k ks)) ≡ cond c 0 (suc (place j js)))
+      × AllMatched (l ∷ cond (eqb k l) ks (note k ks)) (m ∷ cond c js (note j js)))
       (same_test k j l m g h.0)
       (by_test (eqb k l) (alike k j ks js g h.1))
     where
       by_test : (b : Bool) → Alike k j ks js →
-          (cond b 0 (suc (place k ks)) ≡ cond b 0 (suc (place j js))) × AllMatched (l ∷ cond b ks (note k ks)) (m ∷ cond b js (note j js))
+          (cond b 0 (suc (place k ks)) ≡ cond b 0 (suc (place j js))) × AllMatched (l ∷ cond b ks (note k ks))
+          (m ∷ cond b js (note j js))
       by_test true i = (refl, h)
       by_test false i = (ap suc i.0, (h.0, i.1))
 
   abbrev RenumberedAlike : List ℕ → List ℕ → Ty → Ty → Type 0
   RenumberedAlike ks js ν μ = (renumbered ks ν ≡ renumbered js μ) × AllMatched (noted ks ν) (noted js μ)
 
-  unknown_alike : (k : ℕ) (x : Ty) (ks js : List ℕ) → θ k ≡ x → put_types φ x ≡ unknown k → AllMatched ks js → RenumberedAlike ks js (unknown k) x
+  unknown_alike : (k : ℕ) (x : Ty) (ks js : List ℕ) → θ k ≡ x → put_types φ x ≡ unknown k → AllMatched ks js
+      → RenumberedAlike ks js (unknown k) x
   unknown_alike k int ks js e f h = let z : ◌≡◌ {A = ℕ} 0 1 = cc in absurd (omega arith)
   unknown_alike k bool ks js e f h = let z : ◌≡◌ {A = ℕ} 0 1 = cc in absurd (omega arith)
   unknown_alike k (p ⇒ s) ks js e f h = let z : ◌≡◌ {A = ℕ} 0 1 = cc in absurd (omega arith)
   unknown_alike k (unknown j) ks js e f h = let a = alike k j ks js (e, f) h in (ap unknown a.0, a.1)
 
-  renumbered_alike : (ν : Ty) (ks js : List ℕ) → put_types φ (put_types θ ν) ≡ ν → AllMatched ks js → RenumberedAlike ks js ν (put_types θ ν)
+  renumbered_alike : (ν : Ty) (ks js : List ℕ) → put_types φ (put_types θ ν) ≡ ν → AllMatched ks js
+      → RenumberedAlike ks js ν (put_types θ ν)
   renumbered_alike int ks js e h = (refl, h)
   renumbered_alike bool ks js e h = (refl, h)
   renumbered_alike (p ⇒ s) ks js e h =
@@ -234,7 +266,8 @@ spelled_alike μ ν (θ, e) (φ, f) =
     let a = renumbered_alike θ φ ν [] [] (ap (λ x. put_types φ x) e ∙ f) tt in
     ap (λ x. spelling x) (sym e) ∙ sym (ap (λ x. written x) a.0)
 
-same_types : (r q : ℕ) (t u : Tree) (μ ν : Ty) → MostGeneral r t μ → MostGeneral q u ν → spelling μ ≡ spelling ν → (σ : Ty) → RuleHas r t σ → RuleHas q u σ
+same_types : (r q : ℕ) (t u : Tree) (μ ν : Ty) → MostGeneral r t μ → MostGeneral q u ν → spelling μ ≡ spelling ν
+    → (σ : Ty) → RuleHas r t σ → RuleHas q u σ
 same_types r q t u μ ν m n e σ h = what_comes q u ν σ n.is_type (comes_across μ ν σ e (m.every_type σ h))
 
 pub spelling_tells : SpellingTells

@@ -1,4 +1,4 @@
--- Properties of substitution by closed terms. Assumes nothing.
+-- Properties of substitution by closed terms.
 use mathlib.Core.List.{List, [], ◌∷◌}
 use mathlib.Core.Option.{none, some}
 use mathlib.Core.Path.{◌≡◌, refl, sym, ◌∙◌, ap, subst}
@@ -88,19 +88,25 @@ put_closed j k vs (if_else n i t e) h c =
     cc
 
 -- closed terms put for all but k variables leave k
-put_closes_variable : (m k : ℕ) (vs : List Term) (d : ℕ) → m ≤ length vs + k → d < m → Found k vs d → Closed k (or_else (find k vs d) (variable d))
+put_closes_variable : (m k : ℕ) (vs : List Term) (d : ℕ) → m ≤ length vs + k → d < m → Found k vs d
+    → Closed k (or_else (find k vs d) (variable d))
 put_closes_variable m k vs d h c (is_in v e w) =
     subst (λ o. Closed k (or_else o (variable d))) (sym e) (closed_weaken 0 k v (omega arith) w)
 put_closes_variable m k vs d h c (is_near e w) = subst (λ o. Closed k (or_else o (variable d))) (sym e) w
 put_closes_variable m k vs d h c (is_beyond e w) = absurd (omega arith)
 
-pub put_closes : (m k : ℕ) (vs : List Term) (t : Term) → m ≤ length vs + k → AllClosed vs → Closed m t → Closed k (put k vs t)
+pub put_closes : (m k : ℕ) (vs : List Term) (t : Term) → m ≤ length vs + k → AllClosed vs → Closed m t
+    → Closed k (put k vs t)
 put_closes m k vs (number i) h a c = tt
 put_closes m k vs (truth b) h a c = tt
 put_closes m k vs (variable d) h a c = put_closes_variable m k vs d h c (found k vs d a)
 put_closes m k vs (function n b) h a c = put_closes (suc m) (suc k) vs b (omega arith) a c
 put_closes m k vs (application n f x) h a c = (put_closes m k vs f h a c.0, put_closes m k vs x h a c.1)
-put_closes m k vs (let_in n e b) h a c = (put_closes m k vs e h a c.0, put_closes (suc m) (suc k) vs b (omega arith) a c.1)
+put_closes m k vs (let_in n e b) h a c = (
+  put_closes m k vs e h a c.0,
+  put_closes (suc m) (suc k) vs b (omega arith) a
+      c.1,
+)
 put_closes m k vs (sum n l r) h a c = (put_closes m k vs l h a c.0, put_closes m k vs r h a c.1)
 put_closes m k vs (at_most n l r) h a c = (put_closes m k vs l h a c.0, put_closes m k vs r h a c.1)
 put_closes m k vs (if_else n i t e) h a c =
@@ -126,11 +132,13 @@ split (suc k) w vs (suc d) a =
 put_put_variable : (k : ℕ) (w : Term) (vs : List Term) (d : ℕ) → Split k w vs d →
     put k (w ∷ []) (or_else (find (suc k) vs d) (variable d)) ≡ or_else (find k (w ∷ vs) d) (variable d)
 put_put_variable k w vs d (in_list v e f c) =
-    ap (λ o. put k (w ∷ []) (or_else o (variable d))) e ∙ put_closed 0 k (w ∷ []) v (omega arith) c ∙ sym (ap (λ o. or_else o (variable d)) f)
+    ap (λ o. put k (w ∷ []) (or_else o (variable d))) e ∙ put_closed 0 k (w ∷ []) v (omega arith) c
+    ∙ sym (ap (λ o. or_else o (variable d)) f)
 put_put_variable k w vs d (not_in_list e f) =
     ap (λ o. put k (w ∷ []) (or_else o (variable d))) e ∙ sym (ap (λ o. or_else o (variable d)) f)
 
-pub put_put : (k : ℕ) (w : Term) (vs : List Term) (t : Term) → AllClosed vs → put k (w ∷ []) (put (suc k) vs t) ≡ put k (w ∷ vs) t
+pub put_put : (k : ℕ) (w : Term) (vs : List Term) (t : Term) → AllClosed vs
+    → put k (w ∷ []) (put (suc k) vs t) ≡ put k (w ∷ vs) t
 put_put k w vs (number i) a = refl
 put_put k w vs (truth b) a = refl
 put_put k w vs (variable d) a = put_put_variable k w vs d (split k w vs d a)

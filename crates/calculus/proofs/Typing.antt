@@ -1,4 +1,4 @@
--- Properties of typing: closed, weakened, kept by substitution. Assumes nothing.
+-- Properties of typing: closed, weakened, kept by substitution.
 use mathlib.Core.List.{List, [], ◌∷◌, ◌++◌, map}
 use mathlib.Core.Option.{none, some}
 use mathlib.Core.Path.{◌≡◌, refl, sym, subst}
@@ -7,7 +7,8 @@ use lib.ListN.{length, replicate, length-replicate}
 use native.Mathlib.Omega.{arith}
 use Prim.Native.Nat.{ℕ, zero, suc, ◌<◌}
 use Rattle.syntax.specs.Tree.{Tree}
-use Rattle.calculus.specs.Term.{Term, number, truth, variable, function, application, let_in, sum, at_most, if_else, numbered}
+use Rattle.calculus.specs.Term.{Term, number, truth, variable, function, application, let_in, sum, at_most, if_else}
+use Rattle.calculus.specs.Term.{numbered}
 use Rattle.calculus.specs.Substitution.{find, or_else, put, put_one, Closed}
 use Rattle.calculus.specs.Types.{Ty, int, bool, ◌⇒◌, at, Has, RuleHas}
 use Rattle.calculus.specs.Stages.{start}
@@ -63,7 +64,8 @@ Typed [] (p ∷ Γ) = ⊥
 Typed (v ∷ vs) [] = ⊥
 Typed (v ∷ vs) (p ∷ Γ) = Has [] v p × Typed vs Γ
 
-put_has_found : (Δ Γ : List Ty) (vs : List Term) (d : ℕ) (τ : Ty) → Typed vs Γ → at Γ d ≡ some τ → (v : Term) × (find zero vs d ≡ some v) × Has Δ v τ
+put_has_found : (Δ Γ : List Ty) (vs : List Term) (d : ℕ) (τ : Ty) → Typed vs Γ → at Γ d ≡ some τ → (v : Term)
+    × (find zero vs d ≡ some v) × Has Δ v τ
 put_has_found Δ [] vs d τ h e = absurd (none≢some e)
 put_has_found Δ (p ∷ Γ) [] d τ h e = absurd h
 put_has_found Δ (p ∷ Γ) (v ∷ vs) zero τ h e =
@@ -75,18 +77,22 @@ pub data Variable (Δ : List Ty) (k : ℕ) (vs : List Term) (d : ℕ) (τ : Ty) 
   stays : find k vs d ≡ none → at Δ d ≡ some τ → Variable Δ k vs d τ
   is_put : (v : Term) → find k vs d ≡ some v → ((Θ : List Ty) → Has Θ v τ) → Variable Δ k vs d τ
 
-typed_variable : (Δ Γ : List Ty) (vs : List Term) (d : ℕ) (τ : Ty) → Typed vs Γ → at (Δ ++ Γ) d ≡ some τ → Variable Δ (length Δ) vs d τ
+typed_variable : (Δ Γ : List Ty) (vs : List Term) (d : ℕ) (τ : Ty) → Typed vs Γ → at (Δ ++ Γ) d ≡ some τ
+    → Variable Δ (length Δ) vs d τ
 typed_variable [] Γ vs d τ h e =
-    is_put (put_has_found [] Γ vs d τ h e).0 (put_has_found [] Γ vs d τ h e).1 (λ Θ. has_weaken [] Θ (put_has_found [] Γ vs d τ h e).0 τ (put_has_found [] Γ vs d τ h e).2)
+    is_put (put_has_found [] Γ vs d τ h e).0 (put_has_found [] Γ vs d τ h e).1
+    (λ Θ. has_weaken [] Θ (put_has_found [] Γ vs d τ h e).0 τ (put_has_found [] Γ vs d τ h e).2)
 typed_variable (p ∷ Δ) Γ vs zero τ h e = stays refl e
 typed_variable (p ∷ Δ) Γ vs (suc d) τ h e =
     elim (typed_variable Δ Γ vs d τ h e) [ stays f i ↦ stays f i | is_put v f i ↦ is_put v f i ]
 
-put_has_variable : (Δ : List Ty) (k : ℕ) (vs : List Term) (d : ℕ) (τ : Ty) → Variable Δ k vs d τ → Has Δ (or_else (find k vs d) (variable d)) τ
+put_has_variable : (Δ : List Ty) (k : ℕ) (vs : List Term) (d : ℕ) (τ : Ty) → Variable Δ k vs d τ
+    → Has Δ (or_else (find k vs d) (variable d)) τ
 put_has_variable Δ k vs d τ (stays e h) = subst (λ o. Has Δ (or_else o (variable d)) τ) (sym e) h
 put_has_variable Δ k vs d τ (is_put v e h) = subst (λ o. Has Δ (or_else o (variable d)) τ) (sym e) (h Δ)
 
-pub put_has : (Δ Γ : List Ty) (vs : List Term) (t : Term) (τ : Ty) → Typed vs Γ → Has (Δ ++ Γ) t τ → Has Δ (put (length Δ) vs t) τ
+pub put_has : (Δ Γ : List Ty) (vs : List Term) (t : Term) (τ : Ty) → Typed vs Γ → Has (Δ ++ Γ) t τ
+    → Has Δ (put (length Δ) vs t) τ
 put_has Δ Γ vs (number k) τ v h = h
 put_has Δ Γ vs (truth b) τ v h = h
 put_has Δ Γ vs (variable d) τ v h = put_has_variable Δ (length Δ) vs d τ (typed_variable Δ Γ vs d τ v h)
@@ -95,7 +101,11 @@ put_has Δ Γ vs (application n f a) τ v (p, h, i) = (p, put_has Δ Γ vs f (p 
 put_has Δ Γ vs (let_in n e b) τ v (p, h, i) = (p, put_has Δ Γ vs e p v h, put_has (p ∷ Δ) Γ vs b τ v i)
 put_has Δ Γ vs (sum n l r) τ v (e, h, i) = (e, put_has Δ Γ vs l int v h, put_has Δ Γ vs r int v i)
 put_has Δ Γ vs (at_most n l r) τ v (e, h, i) = (e, put_has Δ Γ vs l int v h, put_has Δ Γ vs r int v i)
-put_has Δ Γ vs (if_else n c t e) τ v (h, i, j) = (put_has Δ Γ vs c bool v h, put_has Δ Γ vs t τ v i, put_has Δ Γ vs e τ v j)
+put_has Δ Γ vs (if_else n c t e) τ v (h, i, j) = (
+  put_has Δ Γ vs c bool v h,
+  put_has Δ Γ vs t τ v i,
+  put_has Δ Γ vs e τ v j,
+)
 
 pub put_one_has : (p τ : Ty) (v b : Term) → Has [] v p → Has (p ∷ []) b τ → Has [] (put_one v b) τ
 put_one_has p τ v b h i = put_has [] (p ∷ []) (v ∷ []) b τ (h, tt) i
@@ -107,7 +117,8 @@ readings_typed [] = tt
 readings_typed (k ∷ readings) = (refl, readings_typed readings)
 
 pub start_has : (t : Tree) (τ : Ty) (readings : List ℤ) → RuleHas (length readings) t τ → Has [] (start readings t) τ
-start_has t τ readings h = put_has [] (replicate (length readings) int) (map number readings) (numbered 0 t) τ (readings_typed readings) h
+start_has t τ readings h = put_has [] (replicate (length readings) int) (map number readings) (numbered 0 t) τ
+    (readings_typed readings) h
 
 pub typed_is_closed : TypedIsClosed
 typed_is_closed r t τ h =

@@ -1,4 +1,4 @@
--- Equations between types that have a solution have a most general one. Assumes nothing.
+-- Equations between types that have a solution have a most general one.
 use mathlib.Core.Bool.{Bool, true, false, cond, ◌||◌}
 use mathlib.Core.List.{List, [], ◌∷◌, ◌++◌}
 use mathlib.Core.Path.{◌≡◌, refl, sym, ◌∙◌, ap}
@@ -43,7 +43,8 @@ pub record Solution (es : List Equation) : Type 0 where
   pub every : (θ : ℕ → Ty) → Solves θ es → (k : ℕ) → put_types θ (solution k) ≡ θ k
 
 -- other equations with the same solutions
-same_solution : (es fs : List Equation) → ((θ : ℕ → Ty) → Solves θ es → Solves θ fs) → ((θ : ℕ → Ty) → Solves θ fs → Solves θ es) → Solution es → Solution fs
+same_solution : (es fs : List Equation) → ((θ : ℕ → Ty) → Solves θ es → Solves θ fs) → ((θ : ℕ → Ty) → Solves θ fs
+    → Solves θ es) → Solution es → Solution fs
 same_solution es fs there back s =
     record { solution = s.solution; solves = there s.solution s.solves; every = λ θ h. s.every θ (back θ h) }
 
@@ -71,21 +72,27 @@ single_solved k r θ h j = by_test (eqb j k) refl
     by_test true e = sym h ∙ ap θ (sym (eqb-true j k e))
     by_test false e = refl
 
-put_single_solved : (k : ℕ) (r : Ty) (θ : ℕ → Ty) → θ k ≡ put_types θ r → (τ : Ty) → put_types θ (put_types (single k r) τ) ≡ put_types θ τ
-put_single_solved k r θ h τ = put_types_twice (single k r) θ τ ∙ put_types_same (λ j. put_types θ (single k r j)) θ (single_solved k r θ h) τ
+put_single_solved : (k : ℕ) (r : Ty) (θ : ℕ → Ty) → θ k ≡ put_types θ r → (τ : Ty)
+    → put_types θ (put_types (single k r) τ) ≡ put_types θ τ
+put_single_solved k r θ h τ = put_types_twice (single k r) θ τ ∙ put_types_same (λ j. put_types θ (single k r j)) θ
+    (single_solved k r θ h) τ
 
 abbrev put_equations : (ℕ → Ty) → List Equation → List Equation
 put_equations θ [] = []
 put_equations θ (e ∷ es) = (put_types θ e.left ≐ put_types θ e.right) ∷ put_equations θ es
 
-solves_single : (k : ℕ) (r : Ty) (θ : ℕ → Ty) → θ k ≡ put_types θ r → (es : List Equation) → Solves θ es → Solves θ (put_equations (single k r) es)
+solves_single : (k : ℕ) (r : Ty) (θ : ℕ → Ty) → θ k ≡ put_types θ r → (es : List Equation) → Solves θ es
+    → Solves θ (put_equations (single k r) es)
 solves_single k r θ h [] s = tt
 solves_single k r θ h (e ∷ es) s =
     (put_single_solved k r θ h e.left ∙ s.0 ∙ sym (put_single_solved k r θ h e.right), solves_single k r θ h es s.1)
 
 solves_twice : (θ φ : ℕ → Ty) (es : List Equation) → Solves φ (put_equations θ es) → Solves (λ k. put_types φ (θ k)) es
 solves_twice θ φ [] s = tt
-solves_twice θ φ (e ∷ es) s = (sym (put_types_twice θ φ e.left) ∙ s.0 ∙ put_types_twice θ φ e.right, solves_twice θ φ es s.1)
+solves_twice θ φ (e ∷ es) s = (
+  sym (put_types_twice θ φ e.left) ∙ s.0 ∙ put_types_twice θ φ e.right,
+  solves_twice θ φ es s.1,
+)
 
 -- whether an unknown occurs
 
@@ -111,7 +118,8 @@ single_absent k r (p ⇒ s) e =
 single_absent k r (unknown j) e = ap (λ b. cond b r (unknown j)) e
 
 -- k = r, r without k, is solved by putting r for k in the others
-eliminated : (k : ℕ) (r : Ty) (es : List Equation) → put_types (single k r) r ≡ r → Solution (put_equations (single k r) es) → Solution ((unknown k ≐ r) ∷ es)
+eliminated : (k : ℕ) (r : Ty) (es : List Equation) → put_types (single k r) r ≡ r
+    → Solution (put_equations (single k r) es) → Solution ((unknown k ≐ r) ∷ es)
 eliminated k r es absent s =
     let σ = s.solution in
     let δ = single k r in
@@ -144,7 +152,8 @@ size_pos (unknown k) = omega arith
 
 -- an unknown that occurs is not longer than the whole
 
-occurs_sides : (k : ℕ) (p s : Ty) (m n o : ℕ) → occurs k p || occurs k s ≡ true → (occurs k p ≡ true → m ≤ n) → (occurs k s ≡ true → m ≤ o) → m ≤ n + o
+occurs_sides : (k : ℕ) (p s : Ty) (m n o : ℕ) → occurs k p || occurs k s ≡ true → (occurs k p ≡ true → m ≤ n)
+    → (occurs k s ≡ true → m ≤ o) → m ≤ n + o
 occurs_sides k p s m n o e g h = by_test (occurs k p) refl
   where
     by_test : (b : Bool) → occurs k p ≡ b → m ≤ n + o
@@ -156,7 +165,8 @@ unfolding occurs size
 occurs_size k θ int e = let z : ◌≡◌ {A = ℕ} 0 1 = cc in absurd (omega arith)
 occurs_size k θ bool e = let z : ◌≡◌ {A = ℕ} 0 1 = cc in absurd (omega arith)
 occurs_size k θ (p ⇒ s) e =
-    let q = occurs_sides k p s (size (θ k)) (size (put_types θ p)) (size (put_types θ s)) e (occurs_size k θ p) (occurs_size k θ s) in
+    let q = occurs_sides k p s (size (θ k)) (size (put_types θ p)) (size (put_types θ s)) e (occurs_size k θ p)
+    (occurs_size k θ s) in
     omega arith
 occurs_size k θ (unknown j) e = let q : size (θ j) ≡ size (θ k) = ap (λ x. size (θ x)) (eqb-true j k e) in omega arith
 
@@ -164,7 +174,8 @@ occurs_size k θ (unknown j) e = let q : size (θ j) ≡ size (θ k) = ap (λ x.
 occurs_never : (k : ℕ) (θ : ℕ → Ty) (p s : Ty) → θ k ≡ put_types θ (p ⇒ s) → occurs k (p ⇒ s) ≡ true → ⊥
 unfolding occurs size
 occurs_never k θ p s h e =
-    let q = occurs_sides k p s (size (θ k)) (size (put_types θ p)) (size (put_types θ s)) e (occurs_size k θ p) (occurs_size k θ s) in
+    let q = occurs_sides k p s (size (θ k)) (size (put_types θ p)) (size (put_types θ s)) e (occurs_size k θ p)
+    (occurs_size k θ s) in
     let f : size (θ k) ≡ suc (size (put_types θ p) + size (put_types θ s)) = ap size h in
     omega arith
 
@@ -174,20 +185,25 @@ weight : (ℕ → Ty) → List Equation → ℕ
 weight θ [] = 0
 weight θ (e ∷ es) = size (put_types θ e.left) + weight θ es
 
-weight_single : (k : ℕ) (r : Ty) (θ : ℕ → Ty) → θ k ≡ put_types θ r → (es : List Equation) → weight θ (put_equations (single k r) es) ≡ weight θ es
+weight_single : (k : ℕ) (r : Ty) (θ : ℕ → Ty) → θ k ≡ put_types θ r → (es : List Equation)
+    → weight θ (put_equations (single k r) es) ≡ weight θ es
 unfolding weight
 weight_single k r θ h [] = refl
 weight_single k r θ h (e ∷ es) =
-    let a : size (put_types θ (put_types (single k r) e.left)) ≡ size (put_types θ e.left) = ap size (put_single_solved k r θ h e.left) in
+    let a : size (put_types θ (put_types (single k r) e.left)) ≡ size (put_types θ e.left) =
+    ap size (put_single_solved k r θ h e.left) in
     let b = weight_single k r θ h es in
     omega arith
 
 module _ (θ : ℕ → Ty) (fuel : ℕ) (inner : (es : List Equation) → Solves θ es → weight θ es < fuel → Solution es) where
-  eliminate : (k : ℕ) (r : Ty) (es : List Equation) → put_types (single k r) r ≡ r → θ k ≡ put_types θ r → Solves θ es → weight θ es < fuel → Solution ((unknown k ≐ r) ∷ es)
+  eliminate : (k : ℕ) (r : Ty) (es : List Equation) → put_types (single k r) r ≡ r → θ k ≡ put_types θ r → Solves θ es
+      → weight θ es < fuel → Solution ((unknown k ≐ r) ∷ es)
   eliminate k r es absent e s h =
-      eliminated k r es absent (inner (put_equations (single k r) es) (solves_single k r θ e es s) (let w = weight_single k r θ e es in omega arith))
+      eliminated k r es absent (inner (put_equations (single k r) es) (solves_single k r θ e es s)
+      (let w = weight_single k r θ e es in omega arith))
 
-  unknown_first : (k : ℕ) (r : Ty) (es : List Equation) → θ k ≡ put_types θ r → Solves θ es → weight θ es < fuel → Solution ((unknown k ≐ r) ∷ es)
+  unknown_first : (k : ℕ) (r : Ty) (es : List Equation) → θ k ≡ put_types θ r → Solves θ es → weight θ es < fuel
+      → Solution ((unknown k ≐ r) ∷ es)
   unfolding occurs
   unknown_first k int es e s h = eliminate k int es refl e s h
   unknown_first k bool es e s h = eliminate k bool es refl e s h
@@ -200,14 +216,18 @@ module _ (θ : ℕ → Ty) (fuel : ℕ) (inner : (es : List Equation) → Solves
     where
       by_test : (b : Bool) → eqb j k ≡ b → Solution ((unknown k ≐ unknown j) ∷ es)
       by_test true f =
-          same_solution es ((unknown k ≐ unknown j) ∷ es) (λ φ g. (ap φ (sym (eqb-true j k f)), g)) (λ φ g. g.1) (inner es s h)
+          same_solution es ((unknown k ≐ unknown j) ∷ es) (λ φ g. (ap φ (sym (eqb-true j k f)), g)) (λ φ g. g.1)
+          (inner es s h)
       by_test false f = eliminate k (unknown j) es (single_absent k (unknown j) (unknown j) f) e s h
 
-  unknown_second : (k : ℕ) (l : Ty) (es : List Equation) → put_types θ l ≡ θ k → Solves θ es → weight θ es < fuel → Solution ((l ≐ unknown k) ∷ es)
+  unknown_second : (k : ℕ) (l : Ty) (es : List Equation) → put_types θ l ≡ θ k → Solves θ es → weight θ es < fuel
+      → Solution ((l ≐ unknown k) ∷ es)
   unknown_second k l es e s h =
-      same_solution ((unknown k ≐ l) ∷ es) ((l ≐ unknown k) ∷ es) (λ φ g. (sym g.0, g.1)) (λ φ g. (sym g.0, g.1)) (unknown_first k l es (sym e) s h)
+      same_solution ((unknown k ≐ l) ∷ es) ((l ≐ unknown k) ∷ es) (λ φ g. (sym g.0, g.1)) (λ φ g. (sym g.0, g.1))
+      (unknown_first k l es (sym e) s h)
 
-  arrows : (p s q u : Ty) (es : List Equation) → put_types θ (p ⇒ s) ≡ put_types θ (q ⇒ u) → Solves θ es → size (put_types θ (p ⇒ s)) + weight θ es < suc fuel → Solution (((p ⇒ s) ≐ (q ⇒ u)) ∷ es)
+  arrows : (p s q u : Ty) (es : List Equation) → put_types θ (p ⇒ s) ≡ put_types θ (q ⇒ u) → Solves θ es
+      → size (put_types θ (p ⇒ s)) + weight θ es < suc fuel → Solution (((p ⇒ s) ≐ (q ⇒ u)) ∷ es)
   unfolding size weight
   arrows p s q u es e g h =
       same_solution ((p ≐ q) ∷ (s ≐ u) ∷ es) (((p ⇒ s) ≐ (q ⇒ u)) ∷ es)
@@ -215,19 +235,23 @@ module _ (θ : ℕ → Ty) (fuel : ℕ) (inner : (es : List Equation) → Solves
       (λ φ f. let a = f.0 in (cc, (cc, f.1)))
       (inner ((p ≐ q) ∷ (s ≐ u) ∷ es) (cc, (cc, g)) (omega arith))
 
-  one_equation : (l r : Ty) (es : List Equation) → put_types θ l ≡ put_types θ r → Solves θ es → size (put_types θ l) + weight θ es < suc fuel → Solution ((l ≐ r) ∷ es)
-  one_equation int int es e s h = same_solution es ((int ≐ int) ∷ es) (λ φ g. (refl, g)) (λ φ g. g.1) (inner es s (omega (arith, size_pos int)))
+  one_equation : (l r : Ty) (es : List Equation) → put_types θ l ≡ put_types θ r → Solves θ es
+      → size (put_types θ l) + weight θ es < suc fuel → Solution ((l ≐ r) ∷ es)
+  one_equation int int es e s h = same_solution es ((int ≐ int) ∷ es) (λ φ g. (refl, g)) (λ φ g. g.1)
+      (inner es s (omega (arith, size_pos int)))
   one_equation int bool es e s h = let z : ◌≡◌ {A = ℕ} 0 1 = cc in absurd (omega arith)
   one_equation int (q ⇒ u) es e s h = let z : ◌≡◌ {A = ℕ} 0 1 = cc in absurd (omega arith)
   one_equation int (unknown k) es e s h = unknown_second k int es e s (omega (arith, size_pos int))
   one_equation bool int es e s h = let z : ◌≡◌ {A = ℕ} 0 1 = cc in absurd (omega arith)
-  one_equation bool bool es e s h = same_solution es ((bool ≐ bool) ∷ es) (λ φ g. (refl, g)) (λ φ g. g.1) (inner es s (omega (arith, size_pos bool)))
+  one_equation bool bool es e s h = same_solution es ((bool ≐ bool) ∷ es) (λ φ g. (refl, g)) (λ φ g. g.1)
+      (inner es s (omega (arith, size_pos bool)))
   one_equation bool (q ⇒ u) es e s h = let z : ◌≡◌ {A = ℕ} 0 1 = cc in absurd (omega arith)
   one_equation bool (unknown k) es e s h = unknown_second k bool es e s (omega (arith, size_pos bool))
   one_equation (p ⇒ s) int es e g h = let z : ◌≡◌ {A = ℕ} 0 1 = cc in absurd (omega arith)
   one_equation (p ⇒ s) bool es e g h = let z : ◌≡◌ {A = ℕ} 0 1 = cc in absurd (omega arith)
   one_equation (p ⇒ s) (q ⇒ u) es e g h = arrows p s q u es e g h
-  one_equation (p ⇒ s) (unknown k) es e g h = unknown_second k (p ⇒ s) es e g (omega (arith, size_pos (put_types θ (p ⇒ s))))
+  one_equation (p ⇒ s) (unknown k) es e g h = unknown_second k (p ⇒ s) es e g
+      (omega (arith, size_pos (put_types θ (p ⇒ s))))
   one_equation (unknown k) r es e s h = unknown_first k r es e s (omega (arith, size_pos (θ k)))
 
 unify : (fuel : ℕ) (θ : ℕ → Ty) (es : List Equation) → Solves θ es → weight θ es < fuel → Solution es

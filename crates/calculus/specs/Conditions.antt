@@ -1,7 +1,8 @@
--- The same types, told node by node: what accepting a rule goes through. Assumes nothing.
+-- The same types, told node by node: what accepting a rule goes through.
 use Rattle.std.specs.Prelude.{List, ◌∷◌, ◌≡◌, replicate, ℕ, ◌+◌, ◌≤◌}
 use Rattle.std.proofs.Math.Option.{some}
-use Rattle.syntax.specs.Tree.{Tree, number, truth, variable, function, application, let_in, sum, at_most, if_else, nodes}
+use Rattle.syntax.specs.Tree.{Tree, number, truth, variable, function, application, let_in, sum, at_most, if_else}
+use Rattle.syntax.specs.Tree.{nodes}
 use Rattle.calculus.specs.Types.{Ty, int, bool, ◌⇒◌, at}
 
 -- a type for each node, and a parameter type for each function node
@@ -31,8 +32,10 @@ Met a Γ k i (number n) = i ≤ k → Asks a Γ i (number n)
 Met a Γ k i (truth b) = i ≤ k → Asks a Γ i (truth b)
 Met a Γ k i (variable d) = i ≤ k → Asks a Γ i (variable d)
 Met a Γ k i (function b) = (i ≤ k → Asks a Γ i (function b)) × Met a (a.parameter_of i ∷ Γ) k (i + 1) b
-Met a Γ k i (application f x) = (i ≤ k → Asks a Γ i (application f x)) × Met a Γ k (i + 1) f × Met a Γ k (i + (1 + nodes f)) x
-Met a Γ k i (let_in e b) = (i ≤ k → Asks a Γ i (let_in e b)) × Met a Γ k (i + 1) e × Met a (a.type_of (i + 1) ∷ Γ) k (i + (1 + nodes e)) b
+Met a Γ k i (application f x) = (i ≤ k → Asks a Γ i (application f x)) × Met a Γ k (i + 1) f
+    × Met a Γ k (i + (1 + nodes f)) x
+Met a Γ k i (let_in e b) = (i ≤ k → Asks a Γ i (let_in e b)) × Met a Γ k (i + 1) e × Met a (a.type_of (i + 1) ∷ Γ) k
+    (i + (1 + nodes e)) b
 Met a Γ k i (sum l r) = (i ≤ k → Asks a Γ i (sum l r)) × Met a Γ k (i + 1) l × Met a Γ k (i + (1 + nodes l)) r
 Met a Γ k i (at_most l r) = (i ≤ k → Asks a Γ i (at_most l r)) × Met a Γ k (i + 1) l × Met a Γ k (i + (1 + nodes l)) r
 Met a Γ k i (if_else c t e) =

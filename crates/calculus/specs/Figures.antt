@@ -1,5 +1,5 @@
 -- Worked figures: rules with their lengths and answers. They pin what no law of ending or safety notices,
--- the order of operands and the two ends of the number range. Assumes nothing.
+-- the order of operands and the two ends of the number range.
 use Rattle.std.specs.Prelude.{true, false, List, [], ◌∷◌, ◌≡◌, ℤ, pos, negsuc, ℕ}
 use Rattle.std.proofs.Math.Option.{some}
 use Rattle.syntax.specs.Tree.{Tree, number, truth, variable, function, application, let_in, sum, at_most, if_else}
@@ -78,11 +78,13 @@ pub record Figures : Type 0 where
   -- the right child before the left one, told by the sum that leaves the range
   pub sum_right_first : Gives [] (sum (leaving 1) (leaving 2)) 0 (Answer.range 4)
   pub compare_right_first : Gives [] (at_most (leaving 1) (leaving 2)) 0 (Answer.range 4)
-  pub argument_first : Gives [] (application (application (function (drops 0)) (leaving 1)) (leaving 2)) 0 (Answer.range 8)
+  pub argument_first : Gives [] (application (application (function (drops 0)) (leaving 1)) (leaving 2)) 0
+      (Answer.range 8)
   pub left_second : Gives [] (sum (leaving 1) (sum (number (pos 1)) (number (pos 2)))) 1 (Answer.range 1)
   -- a let's bound child and an if's condition first; nothing inside a function, a let's body or a branch
   pub bound_first : Gives [] (let_in (leaving 1) (leaving 2)) 0 (Answer.range 1)
-  pub condition_first : Gives [] (if_else (at_most (leaving 1) (number (pos 0))) (leaving 2) (leaving 3)) 0 (Answer.range 2)
+  pub condition_first : Gives [] (if_else (at_most (leaving 1) (number (pos 0))) (leaving 2) (leaving 3)) 0
+      (Answer.range 2)
   pub one_branch : Gives [] (if_else (truth false) (leaving 1) (number (pos 5))) 1 (Answer.number (pos 5))
   pub not_inside : Gives [] (function (leaving 1)) 0 (Answer.function 0)
   -- a copied function keeps its number

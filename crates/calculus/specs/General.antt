@@ -1,4 +1,4 @@
--- The most general type of a rule, and its spelling. Assumes nothing.
+-- The most general type of a rule, and its spelling.
 use Rattle.std.specs.Prelude.{cond, List, [], ◌∷◌, ◌++◌, ◌≡◌, ◌==◌, ℕ, suc, ◌+◌}
 use Rattle.syntax.specs.Tree.{Tree}
 use Rattle.calculus.specs.Types.{Ty, int, bool, ◌⇒◌, unknown, RuleHas}

@@ -1,4 +1,4 @@
--- What is proved of every rule. Assumes nothing.
+-- What is proved of every rule.
 use Rattle.std.specs.Prelude.{true, List, [], ◌↔◌, ◌≡◌, ℤ, length, ℕ}
 use Rattle.syntax.specs.Tree.{Tree, nodes}
 use Rattle.calculus.specs.Term.{Term, numbered}
@@ -15,7 +15,8 @@ use Rattle.calculus.specs.Stuck.{IsStuck}
 
 -- no stage of a typed rule is stuck, whatever is read
 abbrev pub NeverStuck : Type 0
-NeverStuck = (t : Tree) (τ : Ty) (readings : List ℤ) → RuleHas (length readings) t τ → (n : ℕ) → ¬ IsStuck (stage n (start readings t))
+NeverStuck = (t : Tree) (τ : Ty) (readings : List ℤ) → RuleHas (length readings) t τ → (n : ℕ)
+    → ¬ IsStuck (stage n (start readings t))
 
 -- in a typed rule all variables are bound: each distance is below the binders around it and the readings
 abbrev pub TypedIsClosed : Type 0
@@ -28,7 +29,8 @@ pub record KeepsTypes : Type 0 where
 
 -- every typed rule has a length, whatever is read, and one only
 pub record HasLength : Type 0 where
-  pub some_length : (t : Tree) (τ : Ty) (readings : List ℤ) → RuleHas (length readings) t τ → (n : ℕ) × Length (start readings t) n
+  pub some_length : (t : Tree) (τ : Ty) (readings : List ℤ) → RuleHas (length readings) t τ → (n : ℕ)
+      × Length (start readings t) n
   pub one_length : (t : Term) (m n : ℕ) → Length t m → Length t n → m ≡ n
 
 -- a stage at rest is a value, and belongs to every type of its rule

@@ -1,4 +1,4 @@
--- When a stage is over, what it answers, and the length. Assumes nothing.
+-- When a stage is over, what it answers, and the length.
 use Rattle.std.specs.Prelude.{Bool, true, false, ◌≡◌, ℤ, ℕ, ◌<◌}
 use Rattle.std.proofs.Math.Option.{Option, none, some}
 use Rattle.calculus.specs.Term.{Term}

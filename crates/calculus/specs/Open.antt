@@ -1,4 +1,4 @@
--- The operations that are open in a term once its next reduction is sought. Assumes nothing.
+-- The operations that are open in a term once its next reduction is sought.
 use Rattle.std.specs.Prelude.{List, [], ◌∷◌, ℕ}
 use Rattle.calculus.specs.Term.{Term, number, truth, variable, function, application, let_in, sum, at_most, if_else}
 

@@ -1,4 +1,4 @@
--- The range of whole numbers, and sums. Assumes nothing.
+-- The range of whole numbers, and sums.
 use Rattle.std.specs.Prelude.{Bool, cond, ◌&&◌, ℤ, pos, negsuc, ◌+ℤ◌}
 use Rattle.std.specs.Int.Signed.{le_z}
 

@@ -1,4 +1,4 @@
--- The reductions as rules. Assumes nothing.
+-- The reductions as rules.
 use Rattle.std.specs.Prelude.{true, false, ◌≡◌, ℤ, ℕ}
 use Rattle.std.specs.Int.Signed.{le_z}
 use Rattle.calculus.specs.Term.{Term, number, truth, function, application, let_in, sum, at_most, if_else}

@@ -1,4 +1,4 @@
--- The stages of a rule on given readings. Assumes nothing.
+-- The stages of a rule on given readings.
 use Rattle.std.specs.Prelude.{List, map, ℤ, ℕ, zero, suc}
 use Rattle.syntax.specs.Tree.{Tree}
 use Rattle.calculus.specs.Term.{Term, number, numbered}

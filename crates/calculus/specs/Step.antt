@@ -1,4 +1,4 @@
--- What comes next for a term, computed. Assumes nothing.
+-- What comes next for a term, computed.
 use Rattle.std.specs.Prelude.{Bool, true, false, ℤ, ℕ}
 use Rattle.std.proofs.Math.Option.{Option, none, some}
 use Rattle.std.specs.Int.Signed.{le_z}

@@ -1,4 +1,4 @@
--- When a term is stuck. Assumes nothing.
+-- When a term is stuck.
 use Rattle.std.specs.Prelude.{false, ◌≡◌}
 use Rattle.calculus.specs.Term.{Term}
 use Rattle.calculus.specs.Rules.{◌⟶◌}

@@ -1,4 +1,4 @@
--- The term of a rule: its tree, with node numbers that copies keep. Assumes nothing.
+-- The term of a rule: its tree, with node numbers that copies keep.
 use Rattle.std.specs.Prelude.{Bool, ℤ, ℕ, ◌+◌}
 use Rattle.syntax.specs.Tree.{Tree, nodes}
 

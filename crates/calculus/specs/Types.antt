@@ -1,8 +1,9 @@
--- Types, and which term has which. Assumes nothing.
+-- Types, and which term has which.
 use Rattle.std.specs.Prelude.{◌≡◌, List, [], ◌∷◌, replicate, ℕ, zero, suc}
 use Rattle.std.proofs.Math.Option.{Option, none, some}
 use Rattle.syntax.specs.Tree.{Tree}
-use Rattle.calculus.specs.Term.{Term, number, truth, variable, function, application, let_in, sum, at_most, if_else, numbered}
+use Rattle.calculus.specs.Term.{Term, number, truth, variable, function, application, let_in, sum, at_most, if_else}
+use Rattle.calculus.specs.Term.{numbered}
 
 infixr 5 ◌⇒◌
 --   τ ::= int | bool | τ → τ | unknown k

@@ -1,4 +1,4 @@
--- Values, and what they hold. Assumes nothing.
+-- Values, and what they hold.
 use Rattle.std.specs.Prelude.{Bool, true, false, ℤ}
 use Rattle.std.proofs.Math.Option.{Option, none, some}
 use Rattle.calculus.specs.Term.{Term, number, truth, variable, function, application, let_in, sum, at_most, if_else}

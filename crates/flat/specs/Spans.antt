@@ -1,6 +1,7 @@
 -- The lists that slots hold. A list's elements stand side by side, and right behind them a slot
 -- with their count: handle h names the slot h - 1, which ends its list. Handle 0 has the empty list.
-use Rattle.std.specs.Prelude.{◌≡◌, ℕ, zero, suc, ◌+◌, ◌-◌, ◌<◌, cond, List, [], ◌∷◌, length, replicate, Some, None, Ok, Option, ◌==◌, nat_le, nat_lt, slice_index_or}
+use Rattle.std.specs.Prelude.{◌≡◌, ℕ, zero, suc, ◌+◌, ◌-◌, ◌<◌, cond, List, [], ◌∷◌, length, replicate, Some, None}
+use Rattle.std.specs.Prelude.{Ok, Option, ◌==◌, nat_le, nat_lt, slice_index_or}
 use Rattle.store.specs.Lists.{Cleared, Extended}
 use Rattle.store.specs.Room.{counted}
 use Rattle.flat.specs.declared.slot.Slot.{Slot}
@@ -30,7 +31,8 @@ module _ {T : Type 0} where
 
   -- the length of the list of handle h, if it has one
   abbrev pub span_of : List (Slot T) → ℕ → ℕ → Option ℕ
-  span_of slots used h = cond (h == 0) (Some 0) (cond (nat_le h used) (ending h (slice_index_or slots (h - 1) Spare)) None)
+  span_of slots used h = cond (h == 0) (Some 0) (cond (nat_le h used) (ending h (slice_index_or slots (h - 1) Spare))
+      None)
 
   abbrev pub list_at : T → List (Slot T) → ℕ → Option ℕ → Option (List T)
   list_at blank slots h (Some n) = Some (reads blank slots (h - 1 - n) n)
@@ -60,7 +62,8 @@ Spanned {T} list (Some s) = (l : List T) × (list ≡ Some l) × (length l ≡ s
 pub record Placed {T : Type 0} (blank : T) (before after : List (Slot T)) (start from n : ℕ) (x : T) : Type 0 where
   pub kept : (k : ℕ) → k < start → slice_index_or after k Spare ≡ slice_index_or before k Spare
   pub first : slice_index_or after start Spare ≡ Element x
-  pub copied : (j : ℕ) → j < n → slice_index_or after (start + 1 + j) Spare ≡ Element (element_of blank (slice_index_or before (from + j) Spare))
+  pub copied : (j : ℕ) → j < n → slice_index_or after (start + 1 + j) Spare ≡ Element
+      (element_of blank (slice_index_or before (from + j) Spare))
   pub ended : slice_index_or after (start + 1 + n) Spare ≡ Ends (n + 1)
 
 -- the elements, the new one, and the slot that ends the list
@@ -76,4 +79,5 @@ module _ {T : Type 0} where
   abbrev pub Pushed : T → List (Slot T) → List (Slot T) → ℕ → ℕ → ℕ → T → Type 0
   Pushed blank before after used h n x =
       let used' = used + cost_of n in
-      Extended (lists_of blank before used) (lists_of blank after used') (room_of before used) (room_of after used') cost_of h x (Ok used')
+      Extended (lists_of blank before used) (lists_of blank after used') (room_of before used) (room_of after used')
+      cost_of h x (Ok used')

@@ -13,7 +13,7 @@ use store::fault::StoreFault;
 use store::room::counted;
 
 /// Lists in lent slots, one behind the other in the first `used` of them.
-// Kept: the slots are lent, so that how many are used stands beside them.
+// The slots are lent, so that how many are used stands beside them.
 #[derive(Drop)]
 pub struct FlatStore<'a, T> {
     slots: &'a mut [Slot<T>],
@@ -27,7 +27,7 @@ fn copy<T: Blank + Copy>(slots: &mut [Slot<T>], from: usize, to: usize, count: u
     ensures before { (k : ℕ) → k < to → slice_index_or slots.new k Spare ≡ slice_index_or slots.old k Spare }
     ensures copied { (j : ℕ) → j < count → slice_index_or slots.new (to + j) Spare ≡ Element (element_of T.Blank.unwritten (slice_index_or slots.old (from + j) Spare)) }
 {
-    // Kept: `copy_within` would keep a slot without an element; what a zip of `iter_mut` wrote is unknown (`returns-clause-copied` stays open).
+    // `copy_within` would keep a slot without an element; what a zip of `iter_mut` wrote is unknown (`returns-clause-copied` stays open).
     for j in 0..count {
         slots[to + j] = Slot::Element(slots[from + j].element());
     }

@@ -1,6 +1,6 @@
 //! What the refusals of records and types mean.
 
-// Kept: the limits stand in these texts as people read them, since a constant text cannot be made from numbers.
+// The limits stand in these texts as people read them, since a constant text cannot be made from numbers.
 pub const LENGTH: &str = "\
 1: this is not the length of the record
 

@@ -5,7 +5,7 @@ use crate::accept_explained;
 pub const KNOWN: &str = "1 to 12, 20 to 22, 31 to 33, 51 to 55 and 57 to 59";
 
 /// What each refusal means, its number first.
-// Kept: the limits stand in these texts as people read them, since a constant text cannot be made from numbers.
+// The limits stand in these texts as people read them, since a constant text cannot be made from numbers.
 const EXPLANATIONS: [&str; 26] = [
     accept_explained::LENGTH,
     accept_explained::VERSION,

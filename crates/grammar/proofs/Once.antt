@@ -1,5 +1,7 @@
--- A text has one verdict. Assumes nothing.
-use Rattle.std.proofs.Common.{◌≡◌, ℕ, ◌+◌, ◌<◌, ◌≤◌, Bool, true, false, ◌||◌, eqb, ◌⊎◌, List, [], ◌∷◌, ◌++◌, length, get_or, ℤ, sym, refl, ap, ◌∙◌, subst, inl, inr, ⊎_elim, true≢false, append_assoc, append-nil, arith, eqb-true}
+-- A text has one verdict.
+use Rattle.std.proofs.Common.{◌≡◌, ℕ, ◌+◌, ◌<◌, ◌≤◌, Bool, true, false, ◌||◌, eqb, ◌⊎◌, List, [], ◌∷◌, ◌++◌, length}
+use Rattle.std.proofs.Common.{get_or, ℤ, sym, refl, ap, ◌∙◌, subst, inl, inr, ⊎_elim, true≢false, append_assoc}
+use Rattle.std.proofs.Common.{append-nil, arith, eqb-true}
 use mathlib.Core.Option.{some, none}
 use Rattle.std.proofs.lemmas.List.{same_from_push}
 use Rattle.std.proofs.str.Laws.{order}
@@ -12,7 +14,9 @@ use Rattle.grammar.specs.Grammar.{Expr}
 use Rattle.grammar.specs.Names.{resolved}
 use Rattle.grammar.specs.Automaton.{is_end}
 use Rattle.grammar.specs.Sentence.{Sentence, Begins, BeginsBound}
-use Rattle.grammar.specs.Verdict.{Front, none_yet, and_next, Sofar, Means, Outcome, refused, compiled, Verdict, too_long, no_token, out_of_range, unexpected, unknown, too_many_nodes, no_room, a_record}
+use Rattle.grammar.specs.Verdict.{Front, none_yet, and_next, Sofar, Means, Outcome, refused, compiled, Verdict}
+use Rattle.grammar.specs.Verdict.{too_long, no_token, out_of_range, unexpected, unknown, too_many_nodes, no_room}
+use Rattle.grammar.specs.Verdict.{a_record}
 use Rattle.grammar.proofs.Judging.{one_tree}
 use Rattle.grammar.proofs.Lexing.{part_cons}
 
@@ -29,7 +33,8 @@ blank_token c cs h = by₁ (eqb c 32) refl
 
     by₄ : (b : Bool) → eqb c 13 ≡ b → eqb c 32 ≡ false → eqb c 9 ≡ false → eqb c 10 ≡ false → token (c ∷ cs) ≡ none
     by₄ true e x y z = at 13 (eqb-true c 13 e) refl
-    by₄ false e x y z = absurd (true≢false (sym h ∙ ap (λ b. b || (eqb c 9 || (eqb c 10 || eqb c 13))) x ∙ ap (λ b. b || (eqb c 10 || eqb c 13)) y ∙ ap (λ b. b || eqb c 13) z ∙ e))
+    by₄ false e x y z = absurd (true≢false (sym h ∙ ap (λ b. b || (eqb c 9 || (eqb c 10 || eqb c 13))) x
+        ∙ ap (λ b. b || (eqb c 10 || eqb c 13)) y ∙ ap (λ b. b || eqb c 13) z ∙ e))
 
     by₃ : (b : Bool) → eqb c 10 ≡ b → eqb c 32 ≡ false → eqb c 9 ≡ false → token (c ∷ cs) ≡ none
     by₃ true e x y = at 10 (eqb-true c 10 e) refl
@@ -46,7 +51,8 @@ blank_token c cs h = by₁ (eqb c 32) refl
 module _ (s : List ℕ) where
   longest_no_blank : (place stop : ℕ) (t : Token) → Longest s place stop t → blank (get_or s place 0) ≡ true → ⊥
   longest_no_blank place stop t l h =
-      none_not_some t (sym (blank_token (get_or s place 0) (part s (place + 1) stop) h) ∙ ap token (sym (part_cons s place stop l.some_bytes l.inside)) ∙ l.spells)
+      none_not_some t (sym (blank_token (get_or s place 0) (part s (place + 1) stop) h)
+      ∙ ap token (sym (part_cons s place stop l.some_bytes l.inside)) ∙ l.spells)
 
   -- where a token stands, and where it stops
   abbrev Stops : ℕ → Type 0
@@ -55,16 +61,19 @@ module _ (s : List ℕ) where
   same_place : (from p q : ℕ) → Blanks s from p → Blanks s from q → Stops p → Stops q → p ≡ q
   same_place from p q a b x y =
       ⊎_elim
-      (λ (lt : p < q). absurd (⊎_elim (λ (e : p ≡ length s). omega (arith, b.1)) (λ (z : (p < length s) × (blank (get_or s p 0) ≡ true → ⊥)). z.1 (b.2 p a.0 lt)) x))
+      (λ (lt : p < q). absurd (⊎_elim (λ (e : p ≡ length s). omega (arith, b.1))
+      (λ (z : (p < length s) × (blank (get_or s p 0) ≡ true → ⊥)). z.1 (b.2 p a.0 lt)) x))
       (λ (le : q ≤ p). ⊎_elim
-      (λ (lt : q < p). absurd (⊎_elim (λ (e : q ≡ length s). omega (arith, a.1)) (λ (z : (q < length s) × (blank (get_or s q 0) ≡ true → ⊥)). z.1 (a.2 q b.0 lt)) y))
+      (λ (lt : q < p). absurd (⊎_elim (λ (e : q ≡ length s). omega (arith, a.1))
+      (λ (z : (q < length s) × (blank (get_or s q 0) ≡ true → ⊥)). z.1 (a.2 q b.0 lt)) y))
       (λ (ge : p ≤ q). omega arith)
       (order q p))
       (order p q)
 
   next_stops : (from place stop : ℕ) (t : Token) → Next s from t place stop → Stops place
   next_stops from place stop t n =
-      ⊎_elim (λ (e : (t ≡ end) × (place ≡ length s) × (stop ≡ place)). inl e.1) (λ (l : Longest s place stop t). inr (omega (arith, l.some_bytes, l.inside), longest_no_blank place stop t l)) n.1
+      ⊎_elim (λ (e : (t ≡ end) × (place ≡ length s) × (stop ≡ place)). inl e.1) (λ (l : Longest s place stop t).
+      inr (omega (arith, l.some_bytes, l.inside), longest_no_blank place stop t l)) n.1
 
   no_next_stops : (from place : ℕ) → NoNext s from place → Stops place
   no_next_stops from place n = inr (n.1, λ h. true≢false (sym h ∙ n.2))
@@ -74,7 +83,8 @@ module _ (s : List ℕ) where
   same_stop place p q t u a b =
       ⊎_elim
       (λ (lt : p < q). absurd (none_not_some u (sym (a.longest q lt b.inside) ∙ b.spells)))
-      (λ (le : q ≤ p). ⊎_elim (λ (lt : q < p). absurd (none_not_some t (sym (b.longest p lt a.inside) ∙ a.spells))) (λ (ge : p ≤ q). omega arith) (order q p))
+      (λ (le : q ≤ p). ⊎_elim (λ (lt : q < p). absurd (none_not_some t (sym (b.longest p lt a.inside) ∙ a.spells)))
+      (λ (ge : p ≤ q). omega arith) (order q p))
       (order p q)
 
   same_some : (t u : Token) → some t ≡ some u → t ≡ u
@@ -90,7 +100,9 @@ module _ (s : List ℕ) where
       let e = same_place from p p' a.0 b.0 (next_stops from p q t a) (next_stops from p' q' t' b) in
       ⊎_elim
       (λ (x : (t ≡ end) × (p ≡ length s) × (q ≡ p)). ⊎_elim
-      (λ (y : (t' ≡ end) × (p' ≡ length s) × (q' ≡ p')). let r : Same p q t p' q' t' = record { places = e; stops = omega (arith, x.2, y.2); tokens = x.0 ∙ sym y.0 } in r)
+      (λ (y : (t' ≡ end) × (p' ≡ length s) × (q' ≡ p')).
+      let r : Same p q t p' q' t' = record { places = e; stops = omega (arith, x.2, y.2); tokens = x.0 ∙ sym y.0 }
+      in r)
       (λ (y : Longest s p' q' t'). absurd (omega (arith, x.1, y.some_bytes, y.inside)))
       b.1)
       (λ (x : Longest s p q t). ⊎_elim
@@ -98,7 +110,12 @@ module _ (s : List ℕ) where
       (λ (y : Longest s p' q' t').
       let z = subst (λ i. Longest s i q' t') (sym e) y in
       let f = same_stop p q q' t t' x z in
-      let r : Same p q t p' q' t' = record { places = e; stops = f; tokens = same_some t t' (sym x.spells ∙ ap (λ i. token (part s p i)) f ∙ z.spells) } in r)
+      let r : Same p q t p' q' t' = record {
+        places = e;
+        stops = f;
+        tokens = same_some t t' (sym x.spells
+            ∙ ap (λ i. token (part s p i)) f ∙ z.spells);
+      } in r)
       b.1)
       a.1
 
@@ -107,16 +124,20 @@ module _ (s : List ℕ) where
       let e = same_place from p p' a.0 b.0 (next_stops from p q t a) (no_next_stops from p' b) in
       ⊎_elim
       (λ (x : (t ≡ end) × (p ≡ length s) × (q ≡ p)). omega (arith, x.1, b.1))
-      (λ (x : Longest s p q t). none_not_some t (sym (subst (λ i. (n : ℕ) → i < n → n ≤ length s → token (part s i n) ≡ none) (sym e) b.3 q x.some_bytes x.inside) ∙ x.spells))
+      (λ (x : Longest s p q t). none_not_some t
+      (sym (subst (λ i. (n : ℕ) → i < n → n ≤ length s → token (part s i n) ≡ none) (sym e) b.3 q x.some_bytes
+      x.inside) ∙ x.spells))
       a.1
 
   -- ── one front goes on to the other ──
 
   data Onward : List Token → ℕ → List Token → ℕ → Type 0 where
     same : {ts : List Token} {to : ℕ} → Onward ts to ts to
-    on : {ts us : List Token} {to to' place stop : ℕ} {t : Token} → Next s to t place stop → fit t ≡ true → is_end t ≡ false → Onward (ts ++ t ∷ []) stop us to' → Onward ts to us to'
+    on : {ts us : List Token} {to to' place stop : ℕ} {t : Token} → Next s to t place stop → fit t ≡ true
+        → is_end t ≡ false → Onward (ts ++ t ∷ []) stop us to' → Onward ts to us to'
 
-  onward_snoc : {ts us : List Token} {to to' place stop : ℕ} {t : Token} → Onward ts to us to' → Next s to' t place stop → fit t ≡ true → is_end t ≡ false → Onward ts to (us ++ t ∷ []) stop
+  onward_snoc : {ts us : List Token} {to to' place stop : ℕ} {t : Token} → Onward ts to us to'
+      → Next s to' t place stop → fit t ≡ true → is_end t ≡ false → Onward ts to (us ++ t ∷ []) stop
   onward_snoc same n f e = on n f e same
   onward_snoc (on m g h o) n f e = on m g h (onward_snoc o n f e)
 
@@ -125,13 +146,16 @@ module _ (s : List ℕ) where
   from_start (and_next f n g e) = onward_snoc (from_start f) n g e
 
   -- a step from where the other stops
-  step_or : {ts us : List Token} {to to' place stop : ℕ} {t : Token} → Onward us to' ts to → Next s to' t place stop → fit t ≡ true → is_end t ≡ false → Onward ts to (us ++ t ∷ []) stop ⊎ Onward (us ++ t ∷ []) stop ts to
+  step_or : {ts us : List Token} {to to' place stop : ℕ} {t : Token} → Onward us to' ts to → Next s to' t place stop
+      → fit t ≡ true → is_end t ≡ false → Onward ts to (us ++ t ∷ []) stop ⊎ Onward (us ++ t ∷ []) stop ts to
   step_or same n f e = inl (on n f e same)
   step_or {ts} {us} {to} {to'} {place} {stop} {t} (on {place = p} {stop = q} {t = u} m g h o) n f e =
       let r = same_next to' p q place stop u t m n in
-      inr (subst (λ x. Onward (us ++ x ∷ []) stop ts to) r.tokens (subst (λ x. Onward (us ++ u ∷ []) x ts to) r.stops o))
+      inr (subst (λ x. Onward (us ++ x ∷ []) stop ts to) r.tokens (subst (λ x. Onward (us ++ u ∷ []) x ts to) r.stops
+      o))
 
-  compare : {ts us : List Token} {to to' : ℕ} → Front s ts to → Front s us to' → Onward ts to us to' ⊎ Onward us to' ts to
+  compare : {ts us : List Token} {to to' : ℕ} → Front s ts to → Front s us to' → Onward ts to us to'
+      ⊎ Onward us to' ts to
   compare f none_yet = inr (from_start f)
   compare f (and_next g n h e) = ⊎_elim (λ o. inl (onward_snoc o n h e)) (λ o. step_or o n h e) (compare f g)
 
@@ -157,18 +181,29 @@ module _ (s : List ℕ) where
       pub bound : BeginsBound book (ts ++ token ∷ [])
 
     -- if another front goes on, the next token passed every question
-    beyond : {ts us : List Token} {to to' : ℕ} → Onward ts to us to' → BeginsBound book us → ((ts ≡ us) × (to ≡ to')) ⊎ Beyond ts to
+    beyond : {ts us : List Token} {to to' : ℕ} → Onward ts to us to' → BeginsBound book us → ((ts ≡ us) × (to ≡ to'))
+        ⊎ Beyond ts to
     beyond same b = inl (refl, refl)
     beyond {ts} (on {place = p} {stop = q} {t = t} n f e o) b =
         let r = onward_prefix o in
-        inr (record { place = p; stop = q; token = t; next = n; fits = f; bound = begins_front (ts ++ t ∷ []) r.0 (subst (BeginsBound book) r.1 b) })
+        inr (record {
+          place = p;
+          stop = q;
+          token = t;
+          next = n;
+          fits = f;
+          bound = begins_front (ts ++ t ∷ []) r.0
+              (subst (BeginsBound book) r.1 b);
+        })
 
     -- what refuses the token that comes next, and what a sentence has there
     pub data Ends (ts : List Token) (to : ℕ) : ℕ → ℕ → Type 0 where
       ends_52 : {place : ℕ} → NoNext s to place → Ends ts to 52 place
       ends_54 : {place stop : ℕ} {z : ℤ} → Next s to (numeral z) place stop → in_range z ≡ false → Ends ts to 54 place
-      ends_55 : {place stop : ℕ} {t : Token} → Next s to t place stop → fit t ≡ true → ¬ Begins (ts ++ t ∷ []) → Ends ts to 55 place
-      ends_57 : {place stop : ℕ} {t : Token} → Next s to t place stop → fit t ≡ true → Begins (ts ++ t ∷ []) → ¬ BeginsBound book (ts ++ t ∷ []) → Ends ts to 57 place
+      ends_55 : {place stop : ℕ} {t : Token} → Next s to t place stop → fit t ≡ true → ¬ Begins (ts ++ t ∷ [])
+          → Ends ts to 55 place
+      ends_57 : {place stop : ℕ} {t : Token} → Next s to t place stop → fit t ≡ true → Begins (ts ++ t ∷ [])
+          → ¬ BeginsBound book (ts ++ t ∷ []) → Ends ts to 57 place
 
     beyond_ends : (ts : List Token) (to n place : ℕ) → Beyond ts to → Ends ts to n place → ⊥
     beyond_ends ts to n place b (ends_52 x) = no_both to b.place b.stop place b.token b.next x
@@ -187,22 +222,35 @@ module _ (s : List ℕ) where
     Told n p m q = (n ≡ m) × (p ≡ q)
 
     ends_once : (ts : List Token) (to n p m q : ℕ) → Ends ts to n p → Ends ts to m q → Told n p m q
-    ends_once ts to n p m q (ends_52 x) (ends_52 y) = (refl, same_place to p q x.0 y.0 (no_next_stops to p x) (no_next_stops to q y))
+    ends_once ts to n p m q (ends_52 x) (ends_52 y) = (
+      refl,
+      same_place to p q x.0 y.0 (no_next_stops to p x)
+          (no_next_stops to q y),
+    )
     ends_once ts to n p m q (ends_52 x) (ends_54 {stop = b} {z = z} y w) = absurd (no_both to q b p (numeral z) y x)
     ends_once ts to n p m q (ends_52 x) (ends_55 {stop = b} {t = t} y w v) = absurd (no_both to q b p t y x)
     ends_once ts to n p m q (ends_52 x) (ends_57 {stop = b} {t = t} y w v u) = absurd (no_both to q b p t y x)
     ends_once ts to n p m q (ends_54 {stop = b} {z = z} y w) (ends_52 x) = absurd (no_both to p b q (numeral z) y x)
-    ends_once ts to n p m q (ends_54 {stop = a} {z = z} x w) (ends_54 {stop = b} {z = z'} y v) = (refl, (same_next to p a q b (numeral z) (numeral z') x y).places)
-    ends_once ts to n p m q (ends_54 {stop = a} {z = z} x w) (ends_55 {stop = b} {t = t} y v u) = absurd (true≢false (sym v ∙ ap fit (sym (same_next to p a q b (numeral z) t x y).tokens) ∙ w))
-    ends_once ts to n p m q (ends_54 {stop = a} {z = z} x w) (ends_57 {stop = b} {t = t} y v u r) = absurd (true≢false (sym v ∙ ap fit (sym (same_next to p a q b (numeral z) t x y).tokens) ∙ w))
+    ends_once ts to n p m q (ends_54 {stop = a} {z = z} x w) (ends_54 {stop = b} {z = z'} y v) =
+        (refl, (same_next to p a q b (numeral z) (numeral z') x y).places)
+    ends_once ts to n p m q (ends_54 {stop = a} {z = z} x w) (ends_55 {stop = b} {t = t} y v u) =
+        absurd (true≢false (sym v ∙ ap fit (sym (same_next to p a q b (numeral z) t x y).tokens) ∙ w))
+    ends_once ts to n p m q (ends_54 {stop = a} {z = z} x w) (ends_57 {stop = b} {t = t} y v u r) =
+        absurd (true≢false (sym v ∙ ap fit (sym (same_next to p a q b (numeral z) t x y).tokens) ∙ w))
     ends_once ts to n p m q (ends_55 {stop = b} {t = t} y w v) (ends_52 x) = absurd (no_both to p b q t y x)
-    ends_once ts to n p m q (ends_55 {stop = b} {t = t} y v u) (ends_54 {stop = a} {z = z} x w) = absurd (true≢false (sym v ∙ ap fit (same_next to p b q a t (numeral z) y x).tokens ∙ w))
-    ends_once ts to n p m q (ends_55 {stop = a} {t = t} x v w) (ends_55 {stop = b} {t = t'} y v' w') = (refl, (same_next to p a q b t t' x y).places)
-    ends_once ts to n p m q (ends_55 {stop = a} {t = t} x v w) (ends_57 {stop = b} {t = t'} y v' g w') = absurd (w (subst (λ u. Begins (ts ++ u ∷ [])) (sym (same_next to p a q b t t' x y).tokens) g))
+    ends_once ts to n p m q (ends_55 {stop = b} {t = t} y v u) (ends_54 {stop = a} {z = z} x w) =
+        absurd (true≢false (sym v ∙ ap fit (same_next to p b q a t (numeral z) y x).tokens ∙ w))
+    ends_once ts to n p m q (ends_55 {stop = a} {t = t} x v w) (ends_55 {stop = b} {t = t'} y v' w') =
+        (refl, (same_next to p a q b t t' x y).places)
+    ends_once ts to n p m q (ends_55 {stop = a} {t = t} x v w) (ends_57 {stop = b} {t = t'} y v' g w') =
+        absurd (w (subst (λ u. Begins (ts ++ u ∷ [])) (sym (same_next to p a q b t t' x y).tokens) g))
     ends_once ts to n p m q (ends_57 {stop = b} {t = t} y w v u) (ends_52 x) = absurd (no_both to p b q t y x)
-    ends_once ts to n p m q (ends_57 {stop = b} {t = t} y v u r) (ends_54 {stop = a} {z = z} x w) = absurd (true≢false (sym v ∙ ap fit (same_next to p b q a t (numeral z) y x).tokens ∙ w))
-    ends_once ts to n p m q (ends_57 {stop = a} {t = t} x v g w) (ends_55 {stop = b} {t = t'} y v' w') = absurd (w' (subst (λ u. Begins (ts ++ u ∷ [])) (same_next to p a q b t t' x y).tokens g))
-    ends_once ts to n p m q (ends_57 {stop = a} {t = t} x v g w) (ends_57 {stop = b} {t = t'} y v' g' w') = (refl, (same_next to p a q b t t' x y).places)
+    ends_once ts to n p m q (ends_57 {stop = b} {t = t} y v u r) (ends_54 {stop = a} {z = z} x w) =
+        absurd (true≢false (sym v ∙ ap fit (same_next to p b q a t (numeral z) y x).tokens ∙ w))
+    ends_once ts to n p m q (ends_57 {stop = a} {t = t} x v g w) (ends_55 {stop = b} {t = t'} y v' w') =
+        absurd (w' (subst (λ u. Begins (ts ++ u ∷ [])) (same_next to p a q b t t' x y).tokens g))
+    ends_once ts to n p m q (ends_57 {stop = a} {t = t} x v g w) (ends_57 {stop = b} {t = t'} y v' g' w') =
+        (refl, (same_next to p a q b t t' x y).places)
 
     -- ── sentences ──
 
@@ -214,48 +262,66 @@ module _ (s : List ℕ) where
       token = end;
       next = m.ends;
       fits = refl;
-      bound = ([], m.expr, t, subst (λ l. Sentence l m.expr) (sym (append-nil (m.tokens ++ end ∷ []))) m.sentence, m.resolves);
+      bound = (
+        [],
+        m.expr,
+        t,
+        subst (λ l. Sentence l m.expr) (sym (append-nil (m.tokens ++ end ∷ []))) m.sentence,
+        m.resolves,
+      );
     }
 
-    means_stays : (t : Tree) (m : Means book s t) (ts : List Token) (to : ℕ) → Onward m.tokens m.to ts to → (m.tokens ≡ ts) × (m.to ≡ to)
+    means_stays : (t : Tree) (m : Means book s t) (ts : List Token) (to : ℕ) → Onward m.tokens m.to ts to
+        → (m.tokens ≡ ts) × (m.to ≡ to)
     means_stays t m ts to o = by o m.ends
       where
         by : {us : List Token} {from p q : ℕ} → Onward us from ts to → Next s from end p q → (us ≡ ts) × (from ≡ to)
         by same n = (refl, refl)
-        by {us} {from} {p} {q} (on {place = p'} {stop = q'} {t = u} x f e o) n = absurd (true≢false (ap is_end (same_next from p q p' q' end u n x).tokens ∙ e))
+        by {us} {from} {p} {q} (on {place = p'} {stop = q'} {t = u} x f e o) n =
+            absurd (true≢false (ap is_end (same_next from p q p' q' end u n x).tokens ∙ e))
 
     ends_means : (ts : List Token) (to n p : ℕ) (t : Tree) → Sofar book s ts to → Ends ts to n p → Means book s t → ⊥
     ends_means ts to n p t a x m =
-        let here : (m.tokens ≡ ts) × (m.to ≡ to) → ⊥ = λ e. beyond_ends ts to n p (subst (λ l. Beyond l to) e.0 (subst (Beyond m.tokens) e.1 (means_beyond t m))) x in
+        let here : (m.tokens ≡ ts) × (m.to ≡ to) → ⊥ = λ e. beyond_ends ts to n p (subst (λ l. Beyond l to) e.0
+        (subst (Beyond m.tokens) e.1 (means_beyond t m))) x in
         ⊎_elim
-        (λ (o : Onward ts to m.tokens m.to). ⊎_elim (λ (e : (ts ≡ m.tokens) × (to ≡ m.to)). here (sym e.0, sym e.1)) (λ (b : Beyond ts to). beyond_ends ts to n p b x) (beyond o m.sofar.begins))
+        (λ (o : Onward ts to m.tokens m.to). ⊎_elim (λ (e : (ts ≡ m.tokens) × (to ≡ m.to)). here (sym e.0, sym e.1))
+        (λ (b : Beyond ts to). beyond_ends ts to n p b x) (beyond o m.sofar.begins))
         (λ (o : Onward m.tokens m.to ts to). here (means_stays t m ts to o))
         (compare a.front m.sofar.front)
 
-    ends_ends : (ts us : List Token) (to to' n p n' p' : ℕ) → Sofar book s ts to → Ends ts to n p → Sofar book s us to' → Ends us to' n' p' → Told n p n' p'
+    ends_ends : (ts us : List Token) (to to' n p n' p' : ℕ) → Sofar book s ts to → Ends ts to n p
+        → Sofar book s us to' → Ends us to' n' p' → Told n p n' p'
     ends_ends ts us to to' n p n' p' a x b y =
         ⊎_elim
         (λ (o : Onward ts to us to'). ⊎_elim
-        (λ (e : (ts ≡ us) × (to ≡ to')). ends_once us to' n p n' p' (subst (λ l. Ends l to' n p) e.0 (subst (λ i. Ends ts i n p) e.1 x)) y)
+        (λ (e : (ts ≡ us) × (to ≡ to')). ends_once us to' n p n' p' (subst (λ l. Ends l to' n p) e.0
+        (subst (λ i. Ends ts i n p) e.1 x)) y)
         (λ (z : Beyond ts to). absurd (beyond_ends ts to n p z x))
         (beyond o b.begins))
         (λ (o : Onward us to' ts to). ⊎_elim
-        (λ (e : (us ≡ ts) × (to' ≡ to)). ends_once ts to n p n' p' x (subst (λ l. Ends l to n' p') e.0 (subst (λ i. Ends us i n' p') e.1 y)))
+        (λ (e : (us ≡ ts) × (to' ≡ to)). ends_once ts to n p n' p' x (subst (λ l. Ends l to n' p') e.0
+        (subst (λ i. Ends us i n' p') e.1 y)))
         (λ (z : Beyond us to'). absurd (beyond_ends us to' n' p' z y))
         (beyond o a.begins))
         (compare a.front b.front)
 
-    sentence_tokens : (ts : List Token) (e : Expr) (x : Sentence (ts ++ end ∷ []) e) → Rattle.grammar.specs.Grammar.Derives Rattle.grammar.specs.Grammar.expr ts e
-    sentence_tokens ts e x = subst (λ l. Rattle.grammar.specs.Grammar.Derives Rattle.grammar.specs.Grammar.expr l e) (sym (same_from_push ts x.0 end end x.1).0) x.2
+    sentence_tokens : (ts : List Token) (e : Expr) (x : Sentence (ts ++ end ∷ []) e)
+        → Rattle.grammar.specs.Grammar.Derives Rattle.grammar.specs.Grammar.expr ts e
+    sentence_tokens ts e x = subst (λ l. Rattle.grammar.specs.Grammar.Derives Rattle.grammar.specs.Grammar.expr l e)
+        (sym (same_from_push ts x.0 end end x.1).0) x.2
 
     same_tree : (t u : Tree) → some t ≡ some u → t ≡ u
     same_tree t u h = cc
 
     means_once : (t u : Tree) → Means book s t → Means book s u → t ≡ u
     means_once t u m n =
-        let same_tokens : m.tokens ≡ n.tokens = ⊎_elim (λ (o : Onward m.tokens m.to n.tokens n.to). (means_stays t m n.tokens n.to o).0) (λ (o : Onward n.tokens n.to m.tokens m.to). sym (means_stays u n m.tokens m.to o).0) (compare m.sofar.front n.sofar.front) in
+        let same_tokens : m.tokens ≡ n.tokens = ⊎_elim (λ (o : Onward m.tokens m.to n.tokens n.to).
+        (means_stays t m n.tokens n.to o).0) (λ (o : Onward n.tokens n.to m.tokens m.to).
+        sym (means_stays u n m.tokens m.to o).0) (compare m.sofar.front n.sofar.front) in
         let d = sentence_tokens m.tokens m.expr m.sentence in
-        let d' = subst (λ l. Rattle.grammar.specs.Grammar.Derives Rattle.grammar.specs.Grammar.expr l n.expr) (sym same_tokens) (sentence_tokens n.tokens n.expr n.sentence) in
+        let d' = subst (λ l. Rattle.grammar.specs.Grammar.Derives Rattle.grammar.specs.Grammar.expr l n.expr)
+        (sym same_tokens) (sentence_tokens n.tokens n.expr n.sentence) in
         let same_expr = one_tree m.tokens m.expr n.expr d d' in
         same_tree t u (sym m.resolves ∙ ap (resolved book) same_expr ∙ n.resolves)
 
@@ -265,7 +331,8 @@ module _ (s : List ℕ) where
       data Final (t : Tree) : Outcome → Type 0 where
         final_58 : 512 < nodes t → Final t (refused 58 0)
         final_59 : nodes t ≤ 512 → room < length (record_of (length book) t) → Final t (refused 59 0)
-        final_record : nodes t ≤ 512 → length (record_of (length book) t) ≤ room → Final t (compiled (record_of (length book) t))
+        final_record : nodes t ≤ 512 → length (record_of (length book) t) ≤ room
+            → Final t (compiled (record_of (length book) t))
 
       data View : Outcome → Type 0 where
         long : 4096 < length s → View (refused 51 0)
@@ -301,11 +368,14 @@ module _ (s : List ℕ) where
       once (long h) (judged a x) = absurd (omega (arith, a.short))
       once (long h) (final m f) = absurd (omega (arith, m.sofar.short))
       once (judged a x) (long h) = absurd (omega (arith, a.short))
-      once (judged {ts} {to} {n} {p} a x) (judged {ts = us} {to = to'} {n = n'} {p = p'} b y) = refused_same n p n' p' (ends_ends ts us to to' n p n' p' a x b y)
+      once (judged {ts} {to} {n} {p} a x) (judged {ts = us} {to = to'} {n = n'} {p = p'} b y) = refused_same n p n' p'
+          (ends_ends ts us to to' n p n' p' a x b y)
       once (judged {ts} {to} {n} {p} a x) (final {t = t} m f) = absurd (ends_means ts to n p t a x m)
       once (final m f) (long h) = absurd (omega (arith, m.sofar.short))
       once (final {t = t} m f) (judged {ts} {to} {n} {p} a x) = absurd (ends_means ts to n p t a x m)
-      once (final {t = t} {o = o} m f) (final {t = u} {o = o'} n g) = final_once (subst (λ x. Final x o) (means_once t u m n) f) g
+      once (final {t = t} {o = o} m f) (final {t = u} {o = o'} n g) =
+          final_once (subst (λ x. Final x o) (means_once t u m n) f) g
 
-pub one_verdict : (book : List Name) (s : List ℕ) (room : ℕ) (o o' : Outcome) → Verdict book s room o → Verdict book s room o' → o ≡ o'
+pub one_verdict : (book : List Name) (s : List ℕ) (room : ℕ) (o o' : Outcome) → Verdict book s room o
+    → Verdict book s room o' → o ≡ o'
 one_verdict book s room o o' x y = once s book room (view s book room x) (view s book room y)

@@ -1,10 +1,11 @@
 -- How tokens are judged one at a time: a stack of what is open, and one token after another. The
 -- contracts inside the parser speak of it. Nobody has to believe it: the laws of `proofs/Judging`
--- say that it goes on exactly as long as the tokens begin a sentence. Assumes nothing.
+-- say that it goes on exactly as long as the tokens begin a sentence.
 use Rattle.std.specs.Prelude.{◌≡◌, ℕ, Bool, true, false, cond, List, [], ◌∷◌}
 use Rattle.std.proofs.Math.Option.{Option, some, none}
 use Rattle.grammar.specs.declared.Mark.{Mark}
-use Rattle.grammar.specs.declared.Mark.TheVariants.{Fun, Let, In, If, Then, Else, True, False, Arrow, Equals, AtMost, Plus, Open, Close}
+use Rattle.grammar.specs.declared.Mark.TheVariants.{Fun, Let, In, If, Then, Else, True, False, Arrow, Equals, AtMost}
+use Rattle.grammar.specs.declared.Mark.TheVariants.{Plus, Open, Close}
 use Rattle.grammar.specs.Token.{Name, Token, mark, name, numeral, end, is}
 use Rattle.grammar.specs.Names.{distance}
 use Rattle.grammar.specs.Grammar.{Expr, literal, boolean, used, lambda, apply, let_in, plus, at_most, if_else}
@@ -132,7 +133,8 @@ and_then unknown f = unknown
 module _ (allowed : List Name → Name → Bool) (book : List Name) where
   abbrev pub step : State → Token → Outcome
   step (operand cl sl ap k) (mark m) = at_mark cl sl ap k m
-  step (operand cl sl ap k) (name x) = cond (allowed (scope book k) x) (go (operand cl sl (some (applied ap (used x))) k)) unknown
+  step (operand cl sl ap k) (name x) = cond (allowed (scope book k) x)
+      (go (operand cl sl (some (applied ap (used x))) k)) unknown
   step (operand cl sl ap k) (numeral z) = go (operand cl sl (some (applied ap (literal z))) k)
   step (operand cl sl ap k) end = closed end cl sl ap k
   step (fun_name k) t = at_binder (λ x. fun_arrow x k) t

@@ -1,4 +1,4 @@
--- What is proved of the grammar and of verdicts. Assumes nothing.
+-- What is proved of the grammar and of verdicts.
 use Rattle.std.specs.Prelude.{◌≡◌, ℕ, List}
 use Rattle.grammar.specs.Token.{Name, Token}
 use Rattle.grammar.specs.Grammar.{Expr, Derives, expr}
@@ -10,4 +10,5 @@ OneTree = (ts : List Token) (e f : Expr) → Derives expr ts e → Derives expr 
 
 -- a text has at most one verdict: one refusal with its number and place, or one record
 abbrev pub OneVerdict : Type 0
-OneVerdict = (book : List Name) (s : List ℕ) (room : ℕ) (o o' : Outcome) → Verdict book s room o → Verdict book s room o' → o ≡ o'
+OneVerdict = (book : List Name) (s : List ℕ) (room : ℕ) (o o' : Outcome) → Verdict book s room o
+    → Verdict book s room o' → o ≡ o'

@@ -1,4 +1,4 @@
--- Which names are in force, and the tree of a rule that a text's tree stands for. Assumes nothing.
+-- Which names are in force, and the tree of a rule that a text's tree stands for.
 use Rattle.std.specs.Prelude.{ℕ, suc, Bool, true, false, cond, ◌&&◌, List, [], ◌∷◌, ◌==◌}
 use Rattle.std.proofs.Math.Option.{Option, some, none}
 use Rattle.syntax.specs.Tree.{Tree}

@@ -1,4 +1,4 @@
--- How a text is cut into tokens: blanks are passed over, and the longest token wins. Assumes nothing.
+-- How a text is cut into tokens: blanks are passed over, and the longest token wins.
 use Rattle.std.specs.Prelude.{◌≡◌, ℕ, ◌<◌, ◌≤◌, true, false, ◌⊎◌, List, length, slice_index, slice_range}
 use Rattle.std.proofs.Math.Option.{some, none}
 use Rattle.grammar.specs.Token.{Token, end}
@@ -24,8 +24,10 @@ pub record Longest (s : List ℕ) (place stop : ℕ) (t : Token) : Type 0 where
 
 -- The next token after `from` begins at `place` and stops before `stop`. The end stands behind all bytes.
 abbrev pub Next : List ℕ → ℕ → Token → ℕ → ℕ → Type 0
-Next s from t place stop = Blanks s from place × (((t ≡ end) × (place ≡ length s) × (stop ≡ place)) ⊎ Longest s place stop t)
+Next s from t place stop = Blanks s from place × (((t ≡ end) × (place ≡ length s) × (stop ≡ place))
+    ⊎ Longest s place stop t)
 
 -- a byte that is no blank stands at `place`, and no token begins there
 abbrev pub NoNext : List ℕ → ℕ → ℕ → Type 0
-NoNext s from place = Blanks s from place × (place < length s) × (blank (slice_index s place) ≡ false) × NoneBeyond s place place
+NoNext s from place = Blanks s from place × (place < length s) × (blank (slice_index s place) ≡ false)
+    × NoneBeyond s place place

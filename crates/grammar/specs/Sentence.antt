@@ -1,4 +1,4 @@
--- Sentences, and what begins one. Assumes nothing.
+-- Sentences, and what begins one.
 use Rattle.std.specs.Prelude.{◌≡◌, List, [], ◌∷◌, ◌++◌}
 use Rattle.std.proofs.Math.Option.{some}
 use Rattle.syntax.specs.Tree.{Tree}
@@ -16,4 +16,5 @@ Begins ts = (rest : List Token) × (e : Expr) × Sentence (ts ++ rest) e
 
 -- some continuation is a sentence whose used names are all in force
 abbrev pub BeginsBound : List Name → List Token → Type 0
-BeginsBound names ts = (rest : List Token) × (e : Expr) × (t : Tree) × Sentence (ts ++ rest) e × (resolved names e ≡ some t)
+BeginsBound names ts = (rest : List Token) × (e : Expr) × (t : Tree) × Sentence (ts ++ rest) e
+    × (resolved names e ≡ some t)

@@ -1,12 +1,14 @@
--- Which bytes spell which token. Assumes nothing.
+-- Which bytes spell which token.
 --
 --   name     a letter, then letters, digits and underscores, but for the eight keywords
 --   number   one or more digits, perhaps with a minus directly before
 --   signs    ->  =  <=  +  (  )
 --   blanks   space, tab, line feed, carriage return
-use Rattle.std.specs.Prelude.{ℕ, ◌+◌, ◌-◌, ◌*◌, Bool, true, false, cond, ◌&&◌, ◌||◌, List, [], ◌∷◌, ℤ, pos, negsuc, neg_ℤ, codes, ◌==◌, nat_le, nat_lt}
+use Rattle.std.specs.Prelude.{ℕ, ◌+◌, ◌-◌, ◌*◌, Bool, true, false, cond, ◌&&◌, ◌||◌, List, [], ◌∷◌, ℤ, pos, negsuc}
+use Rattle.std.specs.Prelude.{neg_ℤ, codes, ◌==◌, nat_le, nat_lt}
 use Rattle.std.proofs.Math.Option.{Option, some, none}
-use Rattle.grammar.specs.declared.Mark.TheVariants.{Fun, Let, In, If, Then, Else, True, False, Arrow, Equals, AtMost, Plus, Open, Close}
+use Rattle.grammar.specs.declared.Mark.TheVariants.{Fun, Let, In, If, Then, Else, True, False, Arrow, Equals, AtMost}
+use Rattle.grammar.specs.declared.Mark.TheVariants.{Plus, Open, Close}
 use Rattle.grammar.specs.Names.{same}
 use Rattle.grammar.specs.Token.{Token, mark, name, numeral, end}
 
@@ -44,7 +46,8 @@ decimal n (c ∷ cs) = decimal (10 * n + (c - 48)) cs
 
 abbrev pub number : ℕ → List ℕ → Option Token
 number c cs =
-    cond (digits (c ∷ cs)) (some (numeral (pos (decimal 0 (c ∷ cs))))) (cond (c == 45 && digits cs) (some (numeral (neg_ℤ (pos (decimal 0 cs))))) none)
+    cond (digits (c ∷ cs)) (some (numeral (pos (decimal 0 (c ∷ cs))))) (cond (c == 45 && digits cs)
+    (some (numeral (neg_ℤ (pos (decimal 0 cs))))) none)
 
 abbrev pub word : List ℕ → Token
 word w =
@@ -73,7 +76,8 @@ or_else (some t) other = some t
 -- the token that these bytes spell, if they spell one
 abbrev pub token : List ℕ → Option Token
 token [] = none
-token (c ∷ cs) = cond (letter c) (cond (all word_byte cs) (some (word (c ∷ cs))) none) (or_else (number c cs) (sign (c ∷ cs)))
+token (c ∷ cs) = cond (letter c) (cond (all word_byte cs) (some (word (c ∷ cs))) none)
+    (or_else (number c cs) (sign (c ∷ cs)))
 
 -- -2147483648 to 2147483647
 abbrev pub in_range : ℤ → Bool

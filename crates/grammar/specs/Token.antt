@@ -1,7 +1,8 @@
--- Tokens, as the grammar sees them. Assumes nothing.
+-- Tokens, as the grammar sees them.
 use Rattle.std.specs.Prelude.{ℕ, Bool, false, List, ℤ, ◌==◌}
 use Rattle.grammar.specs.declared.Mark.{Mark}
-use Rattle.grammar.specs.declared.Mark.TheVariants.{Fun, Let, In, If, Then, Else, True, False, Arrow, Equals, AtMost, Plus, Open, Close}
+use Rattle.grammar.specs.declared.Mark.TheVariants.{Fun, Let, In, If, Then, Else, True, False, Arrow, Equals, AtMost}
+use Rattle.grammar.specs.declared.Mark.TheVariants.{Plus, Open, Close}
 
 -- a name by its bytes
 abbrev pub Name : Type 0

@@ -1,4 +1,4 @@
--- What becomes of a text: the one record, or the one refusal. Assumes nothing.
+-- What becomes of a text: the one record, or the one refusal.
 use Rattle.std.specs.Prelude.{◌≡◌, ℕ, ◌<◌, ◌≤◌, true, false, List, [], ◌∷◌, ◌++◌, length, ℤ}
 use Rattle.std.proofs.Math.Option.{some}
 use Rattle.syntax.specs.Tree.{Tree, nodes}
@@ -14,7 +14,8 @@ use Rattle.grammar.specs.Sentence.{Sentence, Begins, BeginsBound}
 -- the first tokens of a text, all in range and none the end, and where the last of them stops
 pub data Front (s : List ℕ) : List Token → ℕ → Type 0 where
   none_yet : Front s [] 0
-  and_next : {ts : List Token} {to place stop : ℕ} {t : Token} → Front s ts to → Next s to t place stop → fit t ≡ true → is_end t ≡ false → Front s (ts ++ t ∷ []) stop
+  and_next : {ts : List Token} {to place stop : ℕ} {t : Token} → Front s ts to → Next s to t place stop → fit t ≡ true
+      → is_end t ≡ false → Front s (ts ++ t ∷ []) stop
 
 -- the first tokens of a text, and no question about them got a no
 pub record Sofar (book : List Name) (s : List ℕ) (ts : List Token) (to : ℕ) : Type 0 where
@@ -42,10 +43,16 @@ pub data Outcome : Type 0 where
 -- output buffer.
 pub data Verdict (book : List Name) (s : List ℕ) (room : ℕ) : Outcome → Type 0 where
   too_long : 4096 < length s → Verdict book s room (refused 51 0)
-  no_token : {ts : List Token} {to place : ℕ} → Sofar book s ts to → NoNext s to place → Verdict book s room (refused 52 place)
-  out_of_range : {ts : List Token} {to place stop : ℕ} {z : ℤ} → Sofar book s ts to → Next s to (numeral z) place stop → in_range z ≡ false → Verdict book s room (refused 54 place)
-  unexpected : {ts : List Token} {to place stop : ℕ} {t : Token} → Sofar book s ts to → Next s to t place stop → fit t ≡ true → ¬ Begins (ts ++ t ∷ []) → Verdict book s room (refused 55 place)
-  unknown : {ts : List Token} {to place stop : ℕ} {x : Name} → Sofar book s ts to → Next s to (name x) place stop → Begins (ts ++ name x ∷ []) → ¬ BeginsBound book (ts ++ name x ∷ []) → Verdict book s room (refused 57 place)
+  no_token : {ts : List Token} {to place : ℕ} → Sofar book s ts to → NoNext s to place
+      → Verdict book s room (refused 52 place)
+  out_of_range : {ts : List Token} {to place stop : ℕ} {z : ℤ} → Sofar book s ts to → Next s to (numeral z) place stop
+      → in_range z ≡ false → Verdict book s room (refused 54 place)
+  unexpected : {ts : List Token} {to place stop : ℕ} {t : Token} → Sofar book s ts to → Next s to t place stop
+      → fit t ≡ true → ¬ Begins (ts ++ t ∷ []) → Verdict book s room (refused 55 place)
+  unknown : {ts : List Token} {to place stop : ℕ} {x : Name} → Sofar book s ts to → Next s to (name x) place stop
+      → Begins (ts ++ name x ∷ []) → ¬ BeginsBound book (ts ++ name x ∷ []) → Verdict book s room (refused 57 place)
   too_many_nodes : {t : Tree} → Means book s t → 512 < nodes t → Verdict book s room (refused 58 0)
-  no_room : {t : Tree} → Means book s t → nodes t ≤ 512 → room < length (record_of (length book) t) → Verdict book s room (refused 59 0)
-  a_record : {t : Tree} → Means book s t → nodes t ≤ 512 → length (record_of (length book) t) ≤ room → Verdict book s room (compiled (record_of (length book) t))
+  no_room : {t : Tree} → Means book s t → nodes t ≤ 512 → room < length (record_of (length book) t)
+      → Verdict book s room (refused 59 0)
+  a_record : {t : Tree} → Means book s t → nodes t ≤ 512 → length (record_of (length book) t) ≤ room
+      → Verdict book s room (compiled (record_of (length book) t))

@@ -1,4 +1,4 @@
--- What the answer of `amount` says of the number. Assumes nothing.
+-- What the answer of `amount` says of the number.
 use Rattle.std.proofs.Common.{◌≡◌, ℕ, false, ℤ, is_some, Some, None, Option, arith}
 use Rattle.grammar.specs.Spelling.{in_range}
 use Rattle.lexer.specs.Amounts.{Amount}

@@ -1,4 +1,4 @@
--- What digits come to, up to a limit. Assumes nothing.
+-- What digits come to, up to a limit.
 use Rattle.std.proofs.Common.{◌≡◌, ℕ, ◌+◌, ◌-◌, ◌*◌, ◌<◌, ◌≤◌, min, List, [], ◌∷◌, fold, ap, ◌∙◌, ⊎_elim, arith}
 use Rattle.std.proofs.str.Laws.{order}
 use Rattle.grammar.specs.Spelling.{decimal}
@@ -30,4 +30,5 @@ fold_min [] n h = omega arith
 fold_min (c ∷ cs) n h =
     let more : ℕ = 10 * n + (c - 48) in
     let new : one_more n c ≡ min more 4294967295 = omega arith in
-    fold_min cs (one_more n c) (omega arith) ∙ ap (λ k. min (decimal k cs) 4294967295) new ∙ decimal_min cs more 4294967295
+    fold_min cs (one_more n c) (omega arith) ∙ ap (λ k. min (decimal k cs) 4294967295) new
+    ∙ decimal_min cs more 4294967295

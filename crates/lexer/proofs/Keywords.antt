@@ -1,5 +1,6 @@
--- Keywords by the length of a word and its bytes. Assumes nothing.
-use Rattle.std.proofs.Common.{◌≡◌, ℕ, suc, Bool, true, false, cond, ◌&&◌, eqb, List, [], ◌∷◌, length, get_or, codes, sym, refl, ap, ◌∙◌}
+-- Keywords by the length of a word and its bytes.
+use Rattle.std.proofs.Common.{◌≡◌, ℕ, suc, Bool, true, false, cond, ◌&&◌, eqb, List, [], ◌∷◌, length, get_or, codes}
+use Rattle.std.proofs.Common.{sym, refl, ap, ◌∙◌}
 use lib.Dec.{eqb-zero-suc, eqb-suc-zero, eqb-suc-suc}
 use Rattle.grammar.specs.declared.Mark.TheVariants.{Fun, Let, In, If, Then, Else, True, False}
 use Rattle.grammar.specs.Names.{same}
@@ -48,10 +49,20 @@ tested w =
 
 pub word_tested : (w : List ℕ) → word w ≡ tested w
 word_tested w =
-    rw (same_reads w (codes "fun"), same_reads w (codes "let"), same_reads w (codes "in"), same_reads w (codes "if"), same_reads w (codes "then"), same_reads w (codes "else"), same_reads w (codes "true"), same_reads w (codes "false"))
+    rw (
+      same_reads w (codes "fun"),
+      same_reads w (codes "let"),
+      same_reads w (codes "in"),
+      same_reads w (codes "if"),
+      same_reads w (codes "then"),
+      same_reads w (codes "else"),
+      same_reads w (codes "true"),
+      same_reads w (codes "false"),
+    )
 
 -- the keywords of four bytes alone
-pub tested_four : (w : List ℕ) → length w ≡ 4 → tested w ≡ cond (reads w 0 (codes "then")) (mark Then) (cond (reads w 0 (codes "else")) (mark Else) (cond (reads w 0 (codes "true")) (mark True) (name w)))
+pub tested_four : (w : List ℕ) → length w ≡ 4 → tested w ≡ cond (reads w 0 (codes "then")) (mark Then)
+    (cond (reads w 0 (codes "else")) (mark Else) (cond (reads w 0 (codes "true")) (mark True) (name w)))
 tested_four w e = rw e
 
 -- the keyword of five bytes alone

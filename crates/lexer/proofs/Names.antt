@@ -1,5 +1,6 @@
--- Whether bytes are a name. Assumes nothing.
-use Rattle.std.proofs.Common.{◌≡◌, ℕ, ◌-◌, ◌<◌, Bool, true, false, ◌&&◌, eqb, List, length, take, Ok, Err, Result, sym, refl, ap, ◌∙◌, arith}
+-- Whether bytes are a name.
+use Rattle.std.proofs.Common.{◌≡◌, ℕ, ◌-◌, ◌<◌, Bool, true, false, ◌&&◌, eqb, List, length, take, Ok, Err, Result}
+use Rattle.std.proofs.Common.{sym, refl, ap, ◌∙◌, arith}
 use Rattle.std.specs.Result.{MatchResult}
 use Rattle.std.proofs.lemmas.Bool.{eqb-true}
 use Rattle.std.proofs.lemmas.Bool.Decides.{nat_tests}
@@ -14,7 +15,8 @@ use Rattle.lexer.specs.declared.token.Placed.{Placed}
 use Rattle.lexer.specs.Shown.{shown, named, TokenAt}
 
 part_whole : (s : List ℕ) → part s 0 (length s) ≡ s
-part_whole s = let e : length s - 0 ≡ length s = omega arith in ap (λ n. take n s) e ∙ take_all (length s) s (omega arith)
+part_whole s = let e : length s - 0 ≡ length s = omega arith in ap (λ n. take n s) e
+    ∙ take_all (length s) s (omega arith)
 
 -- the longest token of a name is all of it
 token_whole : (s : List ℕ) (stop : ℕ) (t : plain.Token) → Longest s 0 stop t → stop ≡ length s → token s ≡ some t
@@ -24,7 +26,8 @@ token_short : (s : List ℕ) (stop : ℕ) → NoneBeyond s 0 stop → stop < len
 token_short s stop b h = ap token (sym (part_whole s)) ∙ b (length s) h (omega arith)
 
 -- whether the token at the front, if there is one, is a name and all of the bytes
-pub all_name : (s : List ℕ) (r : Result Placed LexFault) (answer : Bool) {Asked : Placed → Type 0} → 0 < length s → TokenAt s 0 r → MatchResult r Asked (λ _. answer ≡ false)
+pub all_name : (s : List ℕ) (r : Result Placed LexFault) (answer : Bool) {Asked : Placed → Type 0} → 0 < length s
+    → TokenAt s 0 r → MatchResult r Asked (λ _. answer ≡ false)
     → ((p : Placed) → Asked p → answer ≡ (eqb p.stop (length s) && is_name (shown p.token))) → answer ≡ named (token s)
 all_name s (Ok p) answer more at asked is = is p asked ∙ by (eqb p.stop (length s)) refl
   where

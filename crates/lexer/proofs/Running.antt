@@ -1,5 +1,6 @@
--- A run ends before the first byte of another kind. Assumes nothing.
-use Rattle.std.proofs.Common.{◌≡◌, ℕ, ◌+◌, ◌-◌, ◌<◌, ◌≤◌, true, false, List, length, get_or, drop, Some, None, Option, sym, ap, ◌∙◌, subst, arith}
+-- A run ends before the first byte of another kind.
+use Rattle.std.proofs.Common.{◌≡◌, ℕ, ◌+◌, ◌-◌, ◌<◌, ◌≤◌, true, false, List, length, get_or, drop, Some, None, Option}
+use Rattle.std.proofs.Common.{sym, ap, ◌∙◌, subst, arith}
 use Rattle.std.specs.List.{AllWithin, HoldsAt}
 use Rattle.std.specs.Option.{MatchOption}
 use Rattle.std.proofs.lemmas.List.{get_or-drop, length-drop}
@@ -14,10 +15,12 @@ IsNot kind c = belongs kind c ≡ false
 
 -- where the first byte of another kind stands among those from a place on
 abbrev pub First : Kind → List ℕ → ℕ → Option ℕ → Type 0
-First kind s from r = MatchOption r (AllWithin (Is kind) (drop from s) 0 (length (drop from s))) (λ i. (i < length (drop from s)) × HoldsAt (IsNot kind) (drop from s) i × AllWithin (Is kind) (drop from s) 0 i)
+First kind s from r = MatchOption r (AllWithin (Is kind) (drop from s) 0 (length (drop from s)))
+    (λ i. (i < length (drop from s)) × HoldsAt (IsNot kind) (drop from s) i × AllWithin (Is kind) (drop from s) 0 i)
 
 module _ (kind : Kind) (s : List ℕ) (from : ℕ) (inside : from ≤ length s) where
-  behind : (n : ℕ) → AllWithin (Is kind) (drop from s) 0 n → (i : ℕ) → from ≤ i → i < from + n → belongs kind (get_or s i 0) ≡ true
+  behind : (n : ℕ) → AllWithin (Is kind) (drop from s) 0 n → (i : ℕ) → from ≤ i → i < from + n
+      → belongs kind (get_or s i 0) ≡ true
   behind n all i low high =
       let at : from + (i - from) ≡ i = omega arith in
       let there = all (i - from) 0 (omega arith) (omega arith) in
@@ -44,6 +47,7 @@ module _ (kind : Kind) (s : List ℕ) (from : ℕ) (inside : from ≤ length s) 
         stops = λ more. absurd (omega arith);
       }
 
-  pub run_found : (r : Option ℕ) (stop : ℕ) {Past : ℕ → Type 0} → MatchOption r (stop ≡ length s) Past → ((n : ℕ) → Past n → stop ≡ from + n) → First kind s from r → Run kind s from stop
+  pub run_found : (r : Option ℕ) (stop : ℕ) {Past : ℕ → Type 0} → MatchOption r (stop ≡ length s) Past
+      → ((n : ℕ) → Past n → stop ≡ from + n) → First kind s from r → Run kind s from stop
   run_found (Some n) stop past is f = subst (Run kind s from) (sym (is n past)) (run_stops n f)
   run_found None stop end is f = subst (Run kind s from) (sym end) (run_ends f)

@@ -1,4 +1,4 @@
--- Numbers in range. Assumes nothing.
+-- Numbers in range.
 use Rattle.std.specs.Prelude.{◌≡◌, true, false, ℤ, Some, None, Option}
 use Rattle.grammar.specs.Spelling.{in_range}
 

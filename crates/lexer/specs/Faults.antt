@@ -1,4 +1,4 @@
--- The number and the place of each refusal of the lexer. Assumes nothing.
+-- The number and the place of each refusal of the lexer.
 use Rattle.std.specs.Prelude.{ℕ}
 use Rattle.lexer.specs.declared.fault.LexFault.{LexFault}
 use Rattle.lexer.specs.declared.fault.LexFault.TheVariants.{NoToken, OutOfRange}

@@ -1,4 +1,4 @@
--- Runs of bytes of one kind. Assumes nothing.
+-- Runs of bytes of one kind.
 use Rattle.std.specs.Prelude.{◌≡◌, ℕ, ◌<◌, ◌≤◌, Bool, true, false, List, length, slice_index}
 use Rattle.grammar.specs.Spelling.{blank, digit, word_byte}
 use Rattle.lexer.specs.declared.run.Kind.{Kind}

@@ -1,5 +1,6 @@
--- What the tokens of the code stand for. Assumes nothing.
-use Rattle.std.specs.Prelude.{◌≡◌, ℕ, ◌+◌, ◌<◌, Bool, true, false, cond, List, [], ◌∷◌, length, ℤ, pos, neg_ℤ, Ok, Err, Result, ◌==◌, ◌≢◌, slice_index}
+-- What the tokens of the code stand for.
+use Rattle.std.specs.Prelude.{◌≡◌, ℕ, ◌+◌, ◌<◌, Bool, true, false, cond, List, [], ◌∷◌, length, ℤ, pos, neg_ℤ, Ok}
+use Rattle.std.specs.Prelude.{Err, Result, ◌==◌, ◌≢◌, slice_index}
 use Rattle.std.proofs.Math.Option.{Option, some, none}
 use Rattle.grammar.specs.Token.{mark, name, numeral, end}
 use Rattle.grammar.specs.Token as plain
@@ -38,7 +39,8 @@ Followed s place c false = place + 1 < length s → slice_index s (place + 1) �
 
 -- the longest token at a place, or that none begins there
 abbrev pub TokenAt : List ℕ → ℕ → Result Placed LexFault → Type 0
-TokenAt s place (Ok p) = (p.place ≡ place) × Longest s place p.stop (shown p.token) × Spelled (part s place p.stop) p.token
+TokenAt s place (Ok p) = (p.place ≡ place) × Longest s place p.stop (shown p.token)
+    × Spelled (part s place p.stop) p.token
 TokenAt s place (Err f) = (f ≡ NoToken place) × NoneBeyond s place place
 
 -- the next token after `from`, or the place where none begins
@@ -48,7 +50,8 @@ Scans s from (Err f) = (f ≡ NoToken (place f)) × NoNext s from (place f)
 
 -- the next token after `from`, in range, or why it is refused
 abbrev pub Lexes : List ℕ → ℕ → Result Placed LexFault → Type 0
-Lexes s from (Ok p) = Next s from (shown p.token) p.place p.stop × (fit (shown p.token) ≡ true) × Spelled (part s p.place p.stop) p.token
+Lexes s from (Ok p) = Next s from (shown p.token) p.place p.stop × (fit (shown p.token) ≡ true)
+    × Spelled (part s p.place p.stop) p.token
 Lexes s from (Err f) = Unread s from (number f) (place f)
 
 -- whether a token, if there is one, is a name

@@ -6,7 +6,7 @@ ghost use Rattle.lexer.specs.Shown.{value};
 
 /// What digits come to, but no more than a `u32` holds, which is out of range with either sign: there may be thousands
 /// of them.
-// Kept: `amount` is public and promises a value of bytes that are no digits too, so a fold would stand beside `parse`.
+// `amount` is public and promises a value of bytes that are no digits too, so a fold would stand beside `parse`.
 fn magnitude(digits: &[u8]) -> u32
     ensures { result ≡ min (decimal 0 digits.now) 4294967295 }
 {

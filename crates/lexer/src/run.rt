@@ -3,7 +3,7 @@ ghost use Rattle.std.specs.Prelude.{◌≡◌, ◌≤◌, length};
 ghost use Rattle.lexer.specs.Runs.{belongs, Run};
 
 /// What a run of bytes consists of.
-// Kept: contracts name the kind of a run; of a test that was passed in they could only say what it answers.
+// Contracts name the kind of a run; of a test that was passed in they could only say what it answers.
 #[derive(Clone, Copy)]
 pub(crate) enum Kind {
     Blank,

@@ -1,6 +1,7 @@
 -- The lists that cells hold: handle h names cell h - 1, and a cell's list is its element
 -- before the list of the handle below it. Handle 0 has the empty list.
-use Rattle.std.specs.Prelude.{◌≡◌, ℕ, zero, suc, ◌+◌, ◌-◌, ◌%◌, ◌≤◌, min, cond, List, [], ◌∷◌, length, drop, replicate, Some, None, Ok, Option, nat_le, nat_lt, slice_index_or}
+use Rattle.std.specs.Prelude.{◌≡◌, ℕ, zero, suc, ◌+◌, ◌-◌, ◌%◌, ◌≤◌, min, cond, List, [], ◌∷◌, length, drop}
+use Rattle.std.specs.Prelude.{replicate, Some, None, Ok, Option, nat_le, nat_lt, slice_index_or}
 use Rattle.store.specs.Lists.{Cleared, Extended}
 use Rattle.store.specs.Room.{counted}
 use Rattle.linked.specs.declared.cell.Cell.{Cell}
@@ -24,7 +25,8 @@ module _ {T : Type 0} where
   abbrev pub walk : T → List (Cell T) → ℕ → ℕ → List T
   walk blank cells zero h = []
   walk blank cells (suc fuel) zero = []
-  walk blank cells (suc fuel) (suc i) = (cell_at blank cells i).element ∷ walk blank cells fuel (lower (suc i) (cell_at blank cells i))
+  walk blank cells (suc fuel) (suc i) = (cell_at blank cells i).element ∷ walk blank cells fuel
+      (lower (suc i) (cell_at blank cells i))
 
   abbrev pub list_of : T → List (Cell T) → ℕ → List T
   list_of blank cells h = walk blank cells h h
@@ -62,7 +64,8 @@ module _ {T : Type 0} where
   -- one cell more, at a cost of 1, which puts x before the list of handle h
   abbrev pub Pushed : T → List (Cell T) → List (Cell T) → ℕ → ℕ → T → Type 0
   Pushed blank before after made h x =
-      Extended (lists_of blank before made) (lists_of blank after (made + 1)) (room_of before made) (room_of after (made + 1)) (λ _. 1) h x (Ok (made + 1))
+      Extended (lists_of blank before made) (lists_of blank after (made + 1)) (room_of before made)
+      (room_of after (made + 1)) (λ _. 1) h x (Ok (made + 1))
 
   -- the cell that puts x before the list of handle h, behind i others
   pub record Heads (blank : T) (cells : List (Cell T)) (i h : ℕ) (x : T) (c : Cell T) : Type 0 where

@@ -15,7 +15,7 @@ use store::room::counted;
 const FAR: u32 = 8;
 
 /// Lists in lent cells. Handles 1 to `made` each name the cell before their own number.
-// Kept: the cells are lent, so that how many are made stands beside them.
+// The cells are lent, so that how many are made stands beside them.
 #[derive(Drop)]
 pub struct LinkedStore<'a, T: Blank> {
     cells: &'a mut [Cell<T>],

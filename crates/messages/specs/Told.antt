@@ -1,4 +1,4 @@
--- What is told of a text. Assumes nothing.
+-- What is told of a text.
 use Rattle.std.specs.Prelude.{ℕ, List, Ok, Err, Result, Vec}
 use Rattle.grammar.specs.Token.{Name}
 use Rattle.grammar.specs.Verdict.{Verdict, refused, compiled}

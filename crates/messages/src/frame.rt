@@ -10,7 +10,7 @@ use std::borrow::CowStr;
 use std::fmt;
 
 /// The bytes that a message points at, by the places of the first and of the byte behind the last.
-// Kept: a `Range` is not Copy, and a part is copied wherever it is looked at.
+// A `Range` is not Copy, and a part is copied wherever it is looked at.
 #[derive(Clone, Copy)]
 pub struct Span {
     pub place: usize,
@@ -29,7 +29,7 @@ enum Subject<'a> {
 /// A refusal, by its number, as people read it.
 #[derive(Drop)]
 pub struct Message<'a> {
-    // Kept: a trait over the faults, with an impl for each, would only carry this number from where `number` tells it.
+    // A trait over the faults, with an impl for each, would only carry this number from where `number` tells it.
     number: u8,
     subject: Subject<'a>,
     reason: Reason,

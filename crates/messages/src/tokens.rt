@@ -8,7 +8,7 @@ use lexer::scan::next_part;
 use lexer::token::{Placed, Token};
 
 /// A token with its place, and the token before it.
-// Kept: with a `Placed` inside, whoever draws or counts a piece would name each of its parts by one step more.
+// With a `Placed` inside, whoever draws or counts a piece would name each of its parts by one step more.
 #[derive(Clone, Copy)]
 pub struct Piece<'a> {
     pub before: Option<Token<'a>>,

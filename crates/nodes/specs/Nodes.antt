@@ -1,11 +1,13 @@
--- The table of nodes, and the trees that it holds. Assumes nothing.
+-- The table of nodes, and the trees that it holds.
 use Rattle.std.specs.Prelude.{List, [], ◌∷◌, ◌++◌, ◌≡◌, pos, length, slice_index_or, ℕ, min, ◌+◌, ◌≤◌, ◌<◌}
 use Rattle.arrayvec.specs.ArrayVec.{array_vec_len}
-use Rattle.syntax.specs.Tree.{Tree, nodes, number, truth, variable, function, application, let_in, sum, at_most, if_else}
+use Rattle.syntax.specs.Tree.{Tree, nodes, number, truth, variable, function, application, let_in, sum, at_most}
+use Rattle.syntax.specs.Tree.{if_else}
 use Rattle.syntax.specs.Record.{encode}
 use Rattle.syntax.specs.Kinds.{kind_of, operands_of}
 use Rattle.syntax.specs.declared.node.Node.{Node}
-use Rattle.syntax.specs.declared.node.Node.TheVariants.{Number, Truth, Variable, Function, Application, LetIn, Sum, AtMost, IfElse}
+use Rattle.syntax.specs.declared.node.Node.TheVariants.{Number, Truth, Variable, Function, Application, LetIn, Sum}
+use Rattle.syntax.specs.declared.node.Node.TheVariants.{AtMost, IfElse}
 use Rattle.nodes.specs.declared.table.Table.{Table}
 
 -- how many bytes a node takes in a record, its children apart
@@ -25,7 +27,8 @@ Holds ns i (application t u) = (a b : ℕ) × (a < i) × (b < i) × (at ns i ≡
 Holds ns i (let_in t u) = (a b : ℕ) × (a < i) × (b < i) × (at ns i ≡ LetIn a b) × Holds ns a t × Holds ns b u
 Holds ns i (sum t u) = (a b : ℕ) × (a < i) × (b < i) × (at ns i ≡ Sum a b) × Holds ns a t × Holds ns b u
 Holds ns i (at_most t u) = (a b : ℕ) × (a < i) × (b < i) × (at ns i ≡ AtMost a b) × Holds ns a t × Holds ns b u
-Holds ns i (if_else t u v) = (a b c : ℕ) × (a < i) × (b < i) × (c < i) × (at ns i ≡ IfElse a b c) × Holds ns a t × Holds ns b u × Holds ns c v
+Holds ns i (if_else t u v) = (a b c : ℕ) × (a < i) × (b < i) × (c < i) × (at ns i ≡ IfElse a b c) × Holds ns a t
+    × Holds ns b u × Holds ns c v
 
 -- how many nodes a table holds, one too many at most
 abbrev pub count : Table → ℕ

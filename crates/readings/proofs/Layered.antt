@@ -1,5 +1,6 @@
 -- What a look never answers, and what the contract of a store becomes where readings stand behind every list.
-use Rattle.std.proofs.Common.{◌≡◌, ℕ, ◌+◌, ◌-◌, ◌<◌, ◌≤◌, List, ◌∷◌, ◌++◌, length, get_or, Some, None, Ok, Err, Option, Result, sym, refl, ap, ◌∙◌, ⊎_elim, arith, length-append}
+use Rattle.std.proofs.Common.{◌≡◌, ℕ, ◌+◌, ◌-◌, ◌<◌, ◌≤◌, List, ◌∷◌, ◌++◌, length, get_or, Some, None, Ok, Err}
+use Rattle.std.proofs.Common.{Option, Result, sym, refl, ap, ◌∙◌, ⊎_elim, arith, length-append}
 use Rattle.std.proofs.lemmas.List.{get_or_append_left, get_or-append_right}
 use Rattle.std.proofs.lemmas.Bool.{cases_lt}
 use Rattle.store.specs.declared.fault.StoreFault.{StoreFault}
@@ -27,7 +28,8 @@ module _ (rs : List Value) where
   added_none None e = refl
   added_none (Some l) e = absurd (some_none refl e)
 
-  pub added_some : (o : Option (List Value)) (m : List Value) → added rs o ≡ Some m → (l : List Value) × (o ≡ Some l) × (m ≡ l ++ rs)
+  pub added_some : (o : Option (List Value)) (m : List Value) → added rs o ≡ Some m → (l : List Value) × (o ≡ Some l)
+      × (m ≡ l ++ rs)
   added_some None m e = absurd (some_none e refl)
   added_some (Some l) m e = (l, refl, some_some e refl)
 
@@ -35,11 +37,14 @@ module _ (rs : List Value) where
   length_under l m e = ap length e ∙ length-append l rs
 
   cost_under : (cost : ℕ → ℕ) (l m : List Value) → m ≡ l ++ rs → cost_below rs cost (length m) ≡ cost (length l)
-  cost_under cost l m e = let long = length_under l m e in let n : length m - length rs ≡ length l = omega arith in ap cost n
+  cost_under cost l m e = let long = length_under l m e in let n : length m - length rs ≡ length l = omega arith in
+      ap cost n
 
   -- extend
-  pub extended_behind : (before after : Lists Value) (free free' : ℕ) (cost : ℕ → ℕ) (h : ℕ) (x : Value) (r : Result ℕ StoreFault)
-      → Extended before after free free' cost h x r → Extended (behind rs before) (behind rs after) free free' (cost_below rs cost) h x r
+  pub extended_behind : (before after : Lists Value) (free free' : ℕ) (cost : ℕ → ℕ) (h : ℕ) (x : Value)
+      (r : Result ℕ StoreFault)
+      → Extended before after free free' cost h x r → Extended (behind rs before) (behind rs after) free free'
+      (cost_below rs cost) h x r
   extended_behind before after free free' cost h x r below = record {
     unlisted = λ none. below.unlisted (added_none (before h) none);
     short = λ m is less.
@@ -62,23 +67,31 @@ module _ (rs : List Value) where
   }
 
   -- look: an element below
-  pub looked_ok : (lists : Lists Value) (h i : ℕ) (x : Value) → Looked lists h i (Ok x) → Looked (behind rs lists) h i (Ok x)
+  pub looked_ok : (lists : Lists Value) (h i : ℕ) (x : Value) → Looked lists h i (Ok x) → Looked (behind rs lists) h i
+      (Ok x)
   looked_ok lists h i x below = record {
     unlisted = λ none. below.unlisted (added_none (lists h) none);
     listed = λ m is.
         let front = added_some (lists h) m is in
         let long = length_under front.0 m front.2 in
         let here = below.listed front.0 front.1 in
-        let within : i < length front.0 = ⊎_elim (λ lt. lt) (λ past. absurd (ok_err refl (here.beyond past))) (cases_lt i (length front.0)) in
+        let within : i < length front.0 = ⊎_elim (λ lt. lt) (λ past. absurd (ok_err refl (here.beyond past)))
+        (cases_lt i (length front.0)) in
         let it = here.found within in
         record {
           beyond = λ past. absurd (omega arith);
-          found = λ _. (it.0, it.1, it.2 ∙ sym (get_or_append_left front.0 rs it.0 i within) ∙ ap (λ w. get_or w i it.0) (sym front.2));
+          found = λ _. (
+            it.0,
+            it.1,
+            it.2 ∙ sym (get_or_append_left front.0 rs it.0 i within)
+                ∙ ap (λ w. get_or w i it.0) (sym front.2),
+          );
         };
   }
 
   -- look: no list below
-  pub looked_no_list : (lists : Lists Value) (h i : ℕ) → Looked lists h i (Err NoList) → Looked (behind rs lists) h i (Err NoList)
+  pub looked_no_list : (lists : Lists Value) (h i : ℕ) → Looked lists h i (Err NoList) → Looked (behind rs lists) h i
+      (Err NoList)
   looked_no_list lists h i below = record {
     unlisted = λ none. refl;
     listed = λ m is.
@@ -103,21 +116,29 @@ module _ (rs : List Value) where
       (cases_option (lists h))
 
   -- look: a reading, or 33 with the whole length
-  pub looked_beyond : (lists : Lists Value) (h i n : ℕ) (r : Result Value StoreFault) → Looked lists h i (Err (Beyond n)) → Read rs n i r → Looked (behind rs lists) h i r
+  pub looked_beyond : (lists : Lists Value) (h i n : ℕ) (r : Result Value StoreFault)
+      → Looked lists h i (Err (Beyond n)) → Read rs n i r → Looked (behind rs lists) h i r
   looked_beyond lists h i n r below read = record {
-    unlisted = λ none. let p = below.unlisted (added_none (lists h) none) in let z : ◌≡◌ {A = ℕ} 0 1 = cc in absurd (omega arith);
+    unlisted = λ none. let p = below.unlisted (added_none (lists h) none) in let z : ◌≡◌ {A = ℕ} 0 1 = cc in
+        absurd (omega arith);
     listed = λ m is.
         let front = added_some (lists h) m is in
         let long = length_under front.0 m front.2 in
         let here = below.listed front.0 front.1 in
-        let past : length front.0 ≤ i = ⊎_elim (λ within. absurd (ok_err (here.found within).1 refl)) (λ p. p) (cases_lt i (length front.0)) in
+        let past : length front.0 ≤ i = ⊎_elim (λ within. absurd (ok_err (here.found within).1 refl)) (λ p. p)
+        (cases_lt i (length front.0)) in
         let same : n ≡ length front.0 = let p = here.beyond past in cc in
         let whole : n + length rs ≡ length m = omega arith in
         record {
           beyond = λ far. read.beyond (omega arith) ∙ ap (λ k. Err (Beyond k)) whole;
           found = λ near.
               let it = read.found (omega arith) in
-              let place : i - n ≡ i - length front.0 = omega arith in
-              (it.0, it.1, it.2 ∙ ap (λ k. get_or rs k it.0) place ∙ sym (get_or-append_right front.0 rs (length front.0) i it.0 refl past) ∙ ap (λ w. get_or w i it.0) (sym front.2));
+              let place : i - n ≡ i - length front.0 = omega arith in (
+                it.0,
+                it.1,
+                it.2 ∙ ap (λ k. get_or rs k it.0) place
+                    ∙ sym (get_or-append_right front.0 rs (length front.0) i it.0 refl past)
+                    ∙ ap (λ w. get_or w i it.0) (sym front.2),
+              );
         };
   }

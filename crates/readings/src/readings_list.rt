@@ -4,7 +4,7 @@ ghost use Rattle.std.specs.Prelude.{◌≤◌};
 use syntax::limits::MOST_READINGS;
 
 /// Readings, the first for reading 0.
-// Kept: readings are publicly Copy, which they may not lose, and a vector of fixed capacity is not.
+// Readings are publicly Copy, which they may not lose, and a vector of fixed capacity is not.
 #[derive(Clone, Copy)]
 pub struct Readings {
     numbers: [i32; MOST_READINGS],

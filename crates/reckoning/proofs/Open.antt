@@ -1,4 +1,4 @@
--- What is open in a work is what is open in its stage. Assumes nothing.
+-- What is open in a work is what is open in its stage.
 use mathlib.Core.List.{List, [], ◌∷◌}
 use mathlib.Core.Option.{Option, none, some}
 use mathlib.Core.Path.{◌≡◌, refl, sym, ◌∙◌, ap}
@@ -52,7 +52,11 @@ ahead_no_stack w (makes m env u) n e = let z : ◌≡◌ {A = ℕ} 0 1 = cc in o
 shortage_no_stack : (o : Option ℕ) (otherwise : State) (n : ℕ) → ¬ (otherwise ≡ no_stack n) →
     (shortage none o otherwise ≡ no_stack n) ↔ (o ≡ some n)
 shortage_no_stack none otherwise n h = (λ e. absurd (h e), λ e. let z : ◌≡◌ {A = ℕ} 0 1 = cc in absurd (omega arith))
-shortage_no_stack (some m) otherwise n h = (λ e. let f : m ≡ n = cc in ap some f, λ e. let f : m ≡ n = cc in ap no_stack f)
+shortage_no_stack (some m) otherwise n h = (
+  λ e. let f : m ≡ n = cc in ap some f,
+  λ e. let f : m ≡ n = cc in
+      ap no_stack f,
+)
 
 pub no_stack_at : (s : Reckoned) (nodes : List ℕ) → s.refused ≡ none → open_nodes s.work ≡ nodes → (n : ℕ) →
     (state s ≡ no_stack n) ↔ (nth 256 nodes ≡ some n)
@@ -60,5 +64,6 @@ no_stack_at s nodes e f n =
     let told : state s ≡ shortage none (nth 256 nodes) (ahead s.work (move s.work)) =
     ap (λ x. shortage x (one_too_many s.work) (ahead s.work (move s.work))) e ∙
     ap (λ x. shortage none (nth 256 x) (ahead s.work (move s.work))) f in
-    let either = shortage_no_stack (nth 256 nodes) (ahead s.work (move s.work)) n (ahead_no_stack s.work (move s.work) n) in
+    let either = shortage_no_stack (nth 256 nodes) (ahead s.work (move s.work)) n
+    (ahead_no_stack s.work (move s.work) n) in
     (λ g. either.0 (sym told ∙ g), λ g. told ∙ either.1 g)

@@ -1,10 +1,11 @@
--- Granted steps, one after another. Assumes nothing.
+-- Granted steps, one after another.
 use mathlib.Core.Path.{◌≡◌, refl, sym, ◌∙◌, ap}
 use native.Mathlib.Omega.{arith}
 use Prim.Native.Nat.{ℕ, zero, suc, ◌+◌, ◌-◌}
 use Rattle.reckoning.specs.Moves.{move}
 use Rattle.reckoning.specs.Room.{Room}
-use Rattle.reckoning.specs.Reckoning.{Reckoned, State, waiting, over, no_store, no_stack, state, reduces, if_waiting, granted, steps}
+use Rattle.reckoning.specs.Reckoning.{Reckoned, State, waiting, over, no_store, no_stack, state, reduces, if_waiting}
+use Rattle.reckoning.specs.Reckoning.{granted, steps}
 use Rattle.reckoning.specs.Laws.{StepsAddUp, Stays}
 
 pub steps_add_up : StepsAddUp
@@ -22,7 +23,8 @@ if_not_waiting (no_stack n) x y h = refl
 steps_from_stopped : (room : Room) (s : Reckoned) (m : ℕ) → ¬ (state s ≡ waiting) → steps room m s ≡ s
 steps_from_stopped room s zero h = refl
 steps_from_stopped room s (suc m) h =
-    ap (λ x. granted room x) (steps_from_stopped room s m h) ∙ if_not_waiting (state s) (reduces room s (move s.work)) s h
+    ap (λ x. granted room x) (steps_from_stopped room s m h) ∙ if_not_waiting (state s) (reduces room s (move s.work))
+    s h
 
 pub stays : Stays
 stays room s m n h not =

@@ -1,8 +1,10 @@
--- A byte string is the record of one tree, or gets one refusal. Assumes nothing.
-use Rattle.std.proofs.Common.{◌≡◌, ℕ, ◌+◌, ◌*◌, ◌/◌, ◌%◌, ◌<◌, ◌≤◌, true, false, List, [], ◌∷◌, ◌++◌, length, get_or, drop, sym, refl, ap, ◌∙◌, inl, inr, append-nil, arith, length-append}
+-- A byte string is the record of one tree, or gets one refusal.
+use Rattle.std.proofs.Common.{◌≡◌, ℕ, ◌+◌, ◌*◌, ◌/◌, ◌%◌, ◌<◌, ◌≤◌, true, false, List, [], ◌∷◌, ◌++◌, length, get_or}
+use Rattle.std.proofs.Common.{drop, sym, refl, ap, ◌∙◌, inl, inr, append-nil, arith, length-append}
 use mathlib.Core.Option.{Option, some, none}
 use Rattle.std.proofs.lemmas.Bool.Decides.{nat_tests}
-use Rattle.syntax.specs.Tree.{Tree, number, truth, variable, function, application, let_in, sum, at_most, if_else, nodes}
+use Rattle.syntax.specs.Tree.{Tree, number, truth, variable, function, application, let_in, sum, at_most, if_else}
+use Rattle.syntax.specs.Tree.{nodes}
 use Rattle.syntax.specs.Record.{encode, record_of}
 use Rattle.record.specs.Bytes.{Stands, two_at}
 use Rattle.record.specs.Laws.{OneReading}
@@ -24,7 +26,8 @@ same_pair o k k' q q' a b =
     same : (x y : ℕ × ℕ) → o ≡ some x → o ≡ some y → x ≡ y
     same x y a b = cc
 
-same_refused : (s : List ℕ) (l : List ℕ) (n p k k' q q' : ℕ) → Refused s l n p k q → Refused s l n p k' q' → (k ≡ k') × (q ≡ q')
+same_refused : (s : List ℕ) (l : List ℕ) (n p k k' q q' : ℕ) → Refused s l n p k q → Refused s l n p k' q' → (k ≡ k')
+    × (q ≡ q')
 same_refused s l n p k k' q q' (here a) (here b) = same_pair _ k k' q q' a b
 same_refused s l n p k k' q q' (here a) (later b r) = absurd (some_none a b)
 same_refused s l n p k k' q q' (later a r) (here b) = absurd (some_none b a)
@@ -49,9 +52,17 @@ short (application t u) = omega (arith, short t, short u, length-append (encode 
 short (let_in t u) = omega (arith, short t, short u, length-append (encode t) (encode u))
 short (sum t u) = omega (arith, short t, short u, length-append (encode t) (encode u))
 short (at_most t u) = omega (arith, short t, short u, length-append (encode t) (encode u))
-short (if_else t u v) = omega (arith, short t, short u, short v, length-append (encode t) (encode u ++ encode v), length-append (encode u) (encode v))
+short (if_else t u v) = omega (
+  arith,
+  short t,
+  short u,
+  short v,
+  length-append (encode t) (encode u ++ encode v),
+  length-append (encode u) (encode v),
+)
 
-front_passes : (s : List ℕ) → 4 ≤ length s → 2 + two_at s 0 ≡ length s → get_or s 2 0 ≡ 1 → get_or s 3 0 ≤ 8 → front s ≡ none
+front_passes : (s : List ℕ) → 4 ≤ length s → 2 + two_at s 0 ≡ length s → get_or s 2 0 ≡ 1 → get_or s 3 0 ≤ 8
+    → front s ≡ none
 front_passes s long count version few = grind (arith, nat_tests)
 
 no_more : (s : List ℕ) (n p k q : ℕ) → Refused s [] n p k q → p < length s
@@ -62,13 +73,15 @@ never_refused r t k q ok (inl a) =
     let s = record_of r t in
     let n = short t in
     let few = ok.few in
-    let count : (2 + length (encode t)) / 256 % 256 * 256 + (2 + length (encode t)) % 256 ≡ 2 + length (encode t) = omega arith in
+    let count : (2 + length (encode t)) / 256 % 256 * 256 + (2 + length (encode t)) % 256 ≡ 2 + length (encode t) =
+    omega arith in
     some_none a (front_passes s (omega arith) (omega (arith, count)) refl ok.over)
 never_refused r t k q ok (inr a) =
     let s = record_of r t in
     let few = ok.few in
     let small = ok.over in
-    let bytes : Stands s 4 (encode t) = stands_behind (((2 + length (encode t)) / 256 % 256) ∷ ((2 + length (encode t)) % 256) ∷ 1 ∷ r ∷ []) (encode t) in
+    let bytes : Stands s 4 (encode t) = stands_behind (((2 + length (encode t)) / 256 % 256) ∷
+    ((2 + length (encode t)) % 256) ∷ 1 ∷ r ∷ []) (encode t) in
     let past = no_more s _ _ k q ((over t s r 0 4 (omega arith) (omega arith) bytes ok.proper k q []).0 a.1) in
     omega arith
 
@@ -81,7 +94,8 @@ one_tree r q t u ok ok' e =
     let codes : encode t ++ [] ≡ encode u ++ [] = append-nil (encode t) ∙ ap (drop 4) e ∙ sym (append-nil (encode u)) in
     let x : Tree × List ℕ = (t, []) in
     let y : Tree × List ℕ = (u, []) in
-    let same : x ≡ y = only x y (sym (decode_encode t 512 r [] few (omega arith) ok.proper) ∙ ap (decode 512) codes ∙ decode_encode u 512 q [] few' (omega arith) ok'.proper) in
+    let same : x ≡ y = only x y (sym (decode_encode t 512 r [] few (omega arith) ok.proper) ∙ ap (decode 512) codes
+    ∙ decode_encode u 512 q [] few' (omega arith) ok'.proper) in
     (ap (λ l. get_or l 3 0) e, ap (λ (z : Tree × List ℕ). z.0) same)
   where
     only : (x y : Tree × List ℕ) → some x ≡ some y → x ≡ y

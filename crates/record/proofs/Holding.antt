@@ -1,6 +1,7 @@
--- Which entries of the table a tree rests on. Assumes nothing.
+-- Which entries of the table a tree rests on.
 use Rattle.std.proofs.Common.{◌≡◌, ℕ, ◌+◌, ◌<◌, ◌≤◌, true, false, List, length, ◌∙◌, arith}
-use Rattle.syntax.specs.Tree.{Tree, nodes, number, truth, variable, function, application, let_in, sum, at_most, if_else}
+use Rattle.syntax.specs.Tree.{Tree, nodes, number, truth, variable, function, application, let_in, sum, at_most}
+use Rattle.syntax.specs.Tree.{if_else}
 use Rattle.syntax.specs.Record.{encode}
 use Rattle.syntax.specs.declared.node.Node.{Node}
 use Rattle.record.specs.Nodes.{node_at, Holds}
@@ -25,16 +26,36 @@ pub holds_same : (ns ms : List Node) (b i : ℕ) (t : Tree) → Same ns ms i (no
 holds_same ns ms b i (number k) same h = same i (omega arith) (omega arith) ∙ h
 holds_same ns ms b i (truth v) same h = same i (omega arith) (omega arith) ∙ h
 holds_same ns ms b i (variable d) same h = same i (omega arith) (omega arith) ∙ h
-holds_same ns ms b i (function t) same h =
-    (same i (omega arith) (omega arith) ∙ h.0, holds_same ns ms (b + 1) (i + 1) t (λ j l m. same j (omega arith) (omega arith)) h.1)
-holds_same ns ms b i (application t u) same h =
-    (same i (omega arith) (omega arith) ∙ h.0, holds_same ns ms b (i + 1) t (λ j l m. same j (omega arith) (omega arith)) h.1, holds_same ns ms b (i + (1 + nodes t)) u (λ j l m. same j (omega arith) (omega arith)) h.2)
-holds_same ns ms b i (let_in t u) same h =
-    (same i (omega arith) (omega arith) ∙ h.0, holds_same ns ms b (i + 1) t (λ j l m. same j (omega arith) (omega arith)) h.1, holds_same ns ms (b + 1) (i + (1 + nodes t)) u (λ j l m. same j (omega arith) (omega arith)) h.2)
-holds_same ns ms b i (sum t u) same h =
-    (same i (omega arith) (omega arith) ∙ h.0, holds_same ns ms b (i + 1) t (λ j l m. same j (omega arith) (omega arith)) h.1, holds_same ns ms b (i + (1 + nodes t)) u (λ j l m. same j (omega arith) (omega arith)) h.2)
-holds_same ns ms b i (at_most t u) same h =
-    (same i (omega arith) (omega arith) ∙ h.0, holds_same ns ms b (i + 1) t (λ j l m. same j (omega arith) (omega arith)) h.1, holds_same ns ms b (i + (1 + nodes t)) u (λ j l m. same j (omega arith) (omega arith)) h.2)
+holds_same ns ms b i (function t) same h = (
+  same i (omega arith) (omega arith) ∙ h.0,
+  holds_same ns ms (b + 1) (i + 1) t (λ j l m. same j (omega arith)
+      (omega arith)) h.1,
+)
+holds_same ns ms b i (application t u) same h = (
+  same i (omega arith) (omega arith) ∙ h.0,
+  holds_same ns ms b (i + 1) t (λ j l m. same j (omega arith)
+      (omega arith)) h.1,
+  holds_same ns ms b (i + (1 + nodes t)) u (λ j l m. same j (omega arith) (omega arith)) h.2,
+)
+holds_same ns ms b i (let_in t u) same h = (
+  same i (omega arith) (omega arith) ∙ h.0,
+  holds_same ns ms b (i + 1) t (λ j l m. same j (omega arith)
+      (omega arith)) h.1,
+  holds_same ns ms (b + 1) (i + (1 + nodes t)) u (λ j l m. same j (omega arith)
+      (omega arith)) h.2,
+)
+holds_same ns ms b i (sum t u) same h = (
+  same i (omega arith) (omega arith) ∙ h.0,
+  holds_same ns ms b (i + 1) t (λ j l m. same j (omega arith)
+      (omega arith)) h.1,
+  holds_same ns ms b (i + (1 + nodes t)) u (λ j l m. same j (omega arith) (omega arith)) h.2,
+)
+holds_same ns ms b i (at_most t u) same h = (
+  same i (omega arith) (omega arith) ∙ h.0,
+  holds_same ns ms b (i + 1) t (λ j l m. same j (omega arith)
+      (omega arith)) h.1,
+  holds_same ns ms b (i + (1 + nodes t)) u (λ j l m. same j (omega arith) (omega arith)) h.2,
+)
 holds_same ns ms b i (if_else t u v) same h = (
   same i (omega arith) (omega arith) ∙ h.0,
   holds_same ns ms b (i + 1) t (λ j l m. same j (omega arith) (omega arith)) h.1,

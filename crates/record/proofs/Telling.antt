@@ -1,9 +1,11 @@
--- The nodes from a place on tell one tree. Assumes nothing.
+-- The nodes from a place on tell one tree.
 use Rattle.std.proofs.Common.{◌≡◌, ℕ, ◌+◌, ◌-◌, ◌<◌, ◌≤◌, ◌⊎◌, inl, inr, List, refl, sym, ap, ◌∙◌, subst, arith}
 use Rattle.std.proofs.lemmas.Bool.{cases_lt}
-use Rattle.syntax.specs.Tree.{Tree, nodes, number, truth, variable, function, application, let_in, sum, at_most, if_else}
+use Rattle.syntax.specs.Tree.{Tree, nodes, number, truth, variable, function, application, let_in, sum, at_most}
+use Rattle.syntax.specs.Tree.{if_else}
 use Rattle.syntax.specs.declared.node.Node.{Node}
-use Rattle.syntax.specs.declared.node.Node.TheVariants.{Number, Truth, Variable, Reading, Function, Application, LetIn, Sum, AtMost, IfElse}
+use Rattle.syntax.specs.declared.node.Node.TheVariants.{Number, Truth, Variable, Reading, Function, Application}
+use Rattle.syntax.specs.declared.node.Node.TheVariants.{LetIn, Sum, AtMost, IfElse}
 use Rattle.record.specs.Laws.{OneTree}
 use Rattle.record.specs.Nodes.{node_at, named, Holds}
 use Rattle.record.proofs.Naming.{names_binder, names_reading}
@@ -27,19 +29,24 @@ module _ (ns : List Node) where
   Told b (IfElse i j k) t = (u v w : Tree) × (t ≡ if_else u v w) × Holds ns b i u × Holds ns b j v × Holds ns b k w
 
   -- a variable by its node
-  told_variable : (b d : ℕ) (t : Tree) → (d < b) ⊎ (b ≤ d) → (Told b (named b d) t → t ≡ variable d) × (t ≡ variable d → Told b (named b d) t)
+  told_variable : (b d : ℕ) (t : Tree) → (d < b) ⊎ (b ≤ d) → (Told b (named b d) t → t ≡ variable d)
+      × (t ≡ variable d → Told b (named b d) t)
   told_variable b d t (inl inner) =
       let is = names_binder b d inner in
       (λ told. subst (λ n. Told b n t) is told, λ same. subst (λ n. Told b n t) (sym is) same)
   told_variable b d t (inr outer) =
       let is = names_reading b d outer in
-      let back : b + (d - b) ≡ d = omega arith in
-      (λ told. subst (λ n. Told b n t) is told ∙ ap variable back, λ same. subst (λ n. Told b n t) (sym is) (same ∙ ap variable (sym back)))
+      let back : b + (d - b) ≡ d = omega arith in (
+        λ told. subst (λ n. Told b n t) is told ∙ ap variable back,
+        λ same. subst (λ n. Told b n t) (sym is) (same
+            ∙ ap variable (sym back)),
+      )
 
   told_at : (b i : ℕ) (t : Tree) → Holds ns b i t → Told b (node_at ns i) t
   told_at b i (number k) h = subst (λ n. Told b n (number k)) (sym h) refl
   told_at b i (truth v) h = subst (λ n. Told b n (truth v)) (sym h) refl
-  told_at b i (variable d) h = subst (λ n. Told b n (variable d)) (sym h) ((told_variable b d (variable d) (cases_lt d b)).1 refl)
+  told_at b i (variable d) h = subst (λ n. Told b n (variable d)) (sym h)
+      ((told_variable b d (variable d) (cases_lt d b)).1 refl)
   told_at b i (function u) h = subst (λ n. Told b n (function u)) (sym h.0) (u, refl, h.1)
   told_at b i (application u v) h = subst (λ n. Told b n (application u v)) (sym h.0) (u, v, refl, h.1, h.2)
   told_at b i (let_in u v) h = subst (λ n. Told b n (let_in u v)) (sym h.0) (u, v, refl, h.1, h.2)
@@ -81,7 +88,8 @@ module _ (ns : List Node) where
       let j = i + (1 + nodes t) in
       let k = i + (1 + (nodes t + nodes v)) in
       let o = told b i (IfElse (i + 1) j k) u h.0 g in
-      let branches = same_two (if_else o.0) v w o.1 o.2 u (held_once b j v o.1 h.2 o.5) (held_once b k w o.2 h.3 o.6) o.3 in
+      let branches = same_two (if_else o.0) v w o.1 o.2 u (held_once b j v o.1 h.2 o.5) (held_once b k w o.2 h.3 o.6)
+      o.3 in
       ap (λ y. if_else y v w) (held_once b (i + 1) t o.0 h.1 o.4) ∙ branches
 
 pub one_tree : OneTree

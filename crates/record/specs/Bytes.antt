@@ -1,4 +1,4 @@
--- Bytes at their places. Assumes nothing.
+-- Bytes at their places.
 use Rattle.std.specs.Prelude.{◌≡◌, ℕ, ◌+◌, ◌*◌, ◌<◌, ◌≤◌, List, [], ◌∷◌, length, slice_index}
 
 -- the bytes w stand in s from place p on

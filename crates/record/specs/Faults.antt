@@ -1,7 +1,8 @@
--- The number and the place of each refusal. Assumes nothing.
+-- The number and the place of each refusal.
 use Rattle.std.specs.Prelude.{ℕ}
 use Rattle.record.specs.declared.fault.RecordFault.{RecordFault}
-use Rattle.record.specs.declared.fault.RecordFault.TheVariants.{Length, Version, Readings, NoNode, TooManyNodes, UnknownKind, CutShort, Unbound, Spare}
+use Rattle.record.specs.declared.fault.RecordFault.TheVariants.{Length, Version, Readings, NoNode, TooManyNodes}
+use Rattle.record.specs.declared.fault.RecordFault.TheVariants.{UnknownKind, CutShort, Unbound, Spare}
 
 abbrev pub number_of : RecordFault → ℕ
 number_of Length = 1

@@ -1,4 +1,4 @@
--- What is proved of every byte string, and of what is received. Assumes nothing.
+-- What is proved of every byte string, and of what is received.
 use Rattle.std.specs.Prelude.{◌≡◌, ℕ, List}
 use Rattle.syntax.specs.Tree.{Tree}
 use Rattle.syntax.specs.Record.{record_of}
@@ -11,7 +11,8 @@ use Rattle.record.specs.declared.received.Received.{Received}
 -- refusal at most. So reading and writing undo each other, and what is refused is the record of no such tree.
 pub record OneReading : Type 0 where
   pub never_refused : (r : ℕ) (t : Tree) (k q : ℕ) → Sendable r t → ¬ Refusal (record_of r t) k q
-  pub one_tree : (r q : ℕ) (t u : Tree) → Sendable r t → Sendable q u → record_of r t ≡ record_of q u → (r ≡ q) × (t ≡ u)
+  pub one_tree : (r q : ℕ) (t u : Tree) → Sendable r t → Sendable q u → record_of r t ≡ record_of q u → (r ≡ q)
+      × (t ≡ u)
   pub one_refusal : (s : List ℕ) (k k' q q' : ℕ) → Refusal s k q → Refusal s k' q' → (k ≡ k') × (q ≡ q')
 
 -- The nodes that are received are those of one tree and no other.

@@ -1,7 +1,8 @@
--- The trees that a controller can run. Assumes nothing.
+-- The trees that a controller can run.
 use Rattle.std.specs.Prelude.{ℕ, ◌+◌, ◌<◌, ◌≤◌, FitsSigned}
 use Rattle.std.specs.Int.{w32}
-use Rattle.syntax.specs.Tree.{Tree, number, truth, variable, function, application, let_in, sum, at_most, if_else, nodes}
+use Rattle.syntax.specs.Tree.{Tree, number, truth, variable, function, application, let_in, sum, at_most, if_else}
+use Rattle.syntax.specs.Tree.{nodes}
 
 -- With b variables in force around the tree, every variable is bound: its distance is below the count of those in
 -- force where it stands. And every number is from −2147483648 to 2147483647.

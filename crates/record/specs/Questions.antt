@@ -1,6 +1,7 @@
 -- The questions that a byte string is asked, in their order; a no comes with the question's number and a place.
--- Places count bytes from the first. Assumes nothing.
-use Rattle.std.specs.Prelude.{◌≡◌, ℕ, ◌+◌, ◌<◌, Bool, cond, not, ◌&&◌, ◌||◌, ◌⊎◌, List, [], ◌∷◌, ◌++◌, length, ◌==◌, nat_le, nat_lt, slice_index, slice_index_or}
+-- Places count bytes from the first.
+use Rattle.std.specs.Prelude.{◌≡◌, ℕ, ◌+◌, ◌<◌, Bool, cond, not, ◌&&◌, ◌||◌, ◌⊎◌, List, [], ◌∷◌, ◌++◌, length, ◌==◌}
+use Rattle.std.specs.Prelude.{nat_le, nat_lt, slice_index, slice_index_or}
 use Rattle.std.proofs.Math.Option.{Option, some, none}
 use Rattle.record.specs.Bytes.{two_at}
 
@@ -26,7 +27,8 @@ width kind = cond (kind == 1) 5 (cond (kind == 4) 3 1)
 -- a function (5) and a let (7) have one more in their body
 abbrev pub children : ℕ → ℕ → List ℕ
 children kind b =
-    slice_index_or ([] ∷ [] ∷ [] ∷ [] ∷ [] ∷ ((b + 1) ∷ []) ∷ (b ∷ b ∷ []) ∷ (b ∷ (b + 1) ∷ []) ∷ (b ∷ b ∷ []) ∷ (b ∷ b ∷ []) ∷ (b ∷ b ∷ b ∷ []) ∷ []) kind []
+    slice_index_or ([] ∷ [] ∷ [] ∷ [] ∷ [] ∷ ((b + 1) ∷ []) ∷ (b ∷ b ∷ []) ∷ (b ∷ (b + 1) ∷ []) ∷ (b ∷ b ∷ []) ∷
+    (b ∷ b ∷ []) ∷ (b ∷ b ∷ b ∷ []) ∷ []) kind []
 
 -- Node n, with b variables in force around it and its kind byte at place p.
 -- 4: has it a byte?  5: is it among the first 512?  6: is its kind from 1 to 10?
@@ -44,7 +46,8 @@ asked s b n p =
 -- it. A node is refused, or passes and its children come next; 9: behind the last tree, does the record end?
 pub data Refused (s : List ℕ) : List ℕ → ℕ → ℕ → ℕ → ℕ → Type 0 where
   here : {b n p k q : ℕ} {more : List ℕ} → asked s b n p ≡ some (k, q) → Refused s (b ∷ more) n p k q
-  later : {b n p k q : ℕ} {more : List ℕ} → asked s b n p ≡ none → Refused s (children (slice_index s p) b ++ more) (n + 1) (p + width (slice_index s p)) k q → Refused s (b ∷ more) n p k q
+  later : {b n p k q : ℕ} {more : List ℕ} → asked s b n p ≡ none → Refused s (children (slice_index s p) b ++ more)
+      (n + 1) (p + width (slice_index s p)) k q → Refused s (b ∷ more) n p k q
   spare : {n p : ℕ} → p < length s → Refused s [] n p 9 p
 
 -- s is refused, with this number and place: one tree is to come behind the first 4 bytes, with the readings in force

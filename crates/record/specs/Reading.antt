@@ -1,4 +1,4 @@
--- What reading a record comes to. Assumes nothing.
+-- What reading a record comes to.
 use Rattle.std.specs.Prelude.{◌≡◌, ℕ, ◌+◌, ◌-◌, ◌<◌, ◌≤◌, List, ◌∷◌, length, Ok, Err, Result, slice_index}
 use Rattle.std.proofs.Math.Option.{some, none}
 use Rattle.syntax.specs.Tree.{Tree, nodes}
@@ -16,7 +16,8 @@ use Rattle.record.specs.Nodes.{node_at, Holds}
 use Rattle.record.specs.Proper.{Proper, Sendable}
 use Rattle.record.specs.Questions.{front, asked, Refused, Refusal}
 
--- node n is among the first 512, its kind byte at place p is this kind's, and its number or distance bytes are all there
+-- node n is among the first 512, its kind byte at place p is this kind's, and its number or distance bytes are all
+-- there
 pub record Heads (s : List ℕ) (n p : ℕ) (kind : Kind) : Type 0 where
   pub among : n < 512
   pub here : p < length s
@@ -33,7 +34,8 @@ abbrev pub Distance : List ℕ → ℕ → ℕ → Result ℕ RecordFault → Ty
 Distance s p b (Ok d) = (d < b) × Stands s (p + 1) (two_bytes d)
 Distance s p b (Err f) = (f ≡ Unbound p) × (b ≤ two_at s (p + 1))
 
--- a tree under b binders and r readings was read from place p to place e, and its nodes were put behind those that stood
+-- a tree under b binders and r readings was read from place p to place e, and its nodes were put behind those that
+-- stood
 -- in the table
 pub record Grown (s : List ℕ) (r b p : ℕ) (before after : List Node) (t : Tree) (e : ℕ) : Type 0 where
   pub counted : length after ≡ length before + nodes t
@@ -46,8 +48,10 @@ pub record Grown (s : List ℕ) (r b p : ℕ) (before after : List Node) (t : Tr
 
 -- one tree with b binders and r readings in force around it, or a refusal, whatever has to come behind the tree
 abbrev pub ReadsTree : ℕ → ℕ → Reader → Reader → Result (Unit {0}) RecordFault → Type 0
-ReadsTree r b before after (Ok u) = (after.bytes.now ≡ before.bytes.now) × (t : Tree) × Grown before.bytes.now r b before.place before.nodes.items after.nodes.items t after.place
-ReadsTree r b before after (Err f) = (more : List ℕ) → Refused before.bytes.now ((b + r) ∷ more) (length before.nodes.items) before.place (number_of f) (place_of f)
+ReadsTree r b before after (Ok u) = (after.bytes.now ≡ before.bytes.now) × (t : Tree)
+    × Grown before.bytes.now r b before.place before.nodes.items after.nodes.items t after.place
+ReadsTree r b before after (Err f) = (more : List ℕ) → Refused before.bytes.now ((b + r) ∷ more)
+    (length before.nodes.items) before.place (number_of f) (place_of f)
 
 -- two trees, the second with its root at node m
 pub record GrownTwice (s : List ℕ) (r b c p : ℕ) (before after : List Node) (t u : Tree) (m e : ℕ) : Type 0 where
@@ -64,12 +68,15 @@ pub record GrownTwice (s : List ℕ) (r b c p : ℕ) (before after : List Node) 
   pub kept : (i : ℕ) → i < length before → node_at after i ≡ node_at before i
 
 abbrev pub ReadsTwo : ℕ → ℕ → ℕ → Reader → Reader → Result ℕ RecordFault → Type 0
-ReadsTwo r b c before after (Ok m) = (after.bytes.now ≡ before.bytes.now) × (t u : Tree) × GrownTwice before.bytes.now r b c before.place before.nodes.items after.nodes.items t u m after.place
-ReadsTwo r b c before after (Err f) = (more : List ℕ) → Refused before.bytes.now ((b + r) ∷ (c + r) ∷ more) (length before.nodes.items) before.place (number_of f) (place_of f)
+ReadsTwo r b c before after (Ok m) = (after.bytes.now ≡ before.bytes.now) × (t u : Tree)
+    × GrownTwice before.bytes.now r b c before.place before.nodes.items after.nodes.items t u m after.place
+ReadsTwo r b c before after (Err f) = (more : List ℕ) → Refused before.bytes.now ((b + r) ∷ (c + r) ∷ more)
+    (length before.nodes.items) before.place (number_of f) (place_of f)
 
 -- the first four bytes are in order, or the first no
 abbrev pub Fronted : List ℕ → Result ℕ RecordFault → Type 0
-Fronted s (Ok r) = (front s ≡ none) × (r ≡ slice_index s 3) × (4 ≤ length s) × (r ≤ 8) × Stands s 0 (two_bytes (length s - 2)) × (slice_index s 2 ≡ 1)
+Fronted s (Ok r) = (front s ≡ none) × (r ≡ slice_index s 3) × (4 ≤ length s) × (r ≤ 8)
+    × Stands s 0 (two_bytes (length s - 2)) × (slice_index s 2 ≡ 1)
 Fronted s (Err f) = front s ≡ some (number_of f, place_of f)
 
 -- the table holds this tree and nothing else, and the tree may be sent

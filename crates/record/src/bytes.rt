@@ -4,7 +4,7 @@ ghost use Rattle.syntax.specs.Record.{four_bytes, two_bytes};
 ghost use Rattle.record.specs.Bytes.{Stands, two_at};
 
 /// As many bytes as are asked for, from a place on.
-// Kept: with the rest of the slice in place of `bytes, place`, what is said of a record's places would be carried over at each call.
+// With the rest of the slice in place of `bytes, place`, what is said of a record's places would be carried over at each call.
 fn array_at<const N: usize>(bytes: &[u8], place: usize) -> [u8; N]
     requires { place + N ≤ length bytes.now }
     ensures { result ≡ take N (drop place bytes.now) }

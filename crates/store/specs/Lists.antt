@@ -2,7 +2,8 @@
 --
 -- A `Lists` gives each handle its list, or none. `free` is the free room and `cost`
 -- the price of putting an element before a list of a given length.
-use Rattle.std.specs.Prelude.{◌≡◌, ℕ, ◌+◌, ◌<◌, ◌≤◌, List, ◌∷◌, length, Some, None, Ok, Err, Option, Result, ◌≢◌, slice_index_or}
+use Rattle.std.specs.Prelude.{◌≡◌, ℕ, ◌+◌, ◌<◌, ◌≤◌, List, ◌∷◌, length, Some, None, Ok, Err, Option, Result, ◌≢◌}
+use Rattle.std.specs.Prelude.{slice_index_or}
 use Rattle.store.specs.declared.fault.StoreFault.{StoreFault}
 use Rattle.store.specs.declared.fault.StoreFault.TheVariants.{NoList, NoRoom, Beyond}
 
@@ -27,17 +28,20 @@ pub record Cleared {E : Type 0} (lists : Lists E) (base : List E) (whole free : 
   pub unspent : free ≡ whole
 
 -- handle k, which had no list, now has x before the list l; this was paid for, and all else stays
-pub record Made {E : Type 0} (before after : Lists E) (free free' : ℕ) (cost : ℕ → ℕ) (l : List E) (x : E) (k : ℕ) : Type 0 where
+pub record Made {E : Type 0} (before after : Lists E) (free free' : ℕ) (cost : ℕ → ℕ) (l : List E) (x : E)
+    (k : ℕ) : Type 0 where
   pub fresh : before k ≡ None
   pub known : after k ≡ Some (x ∷ l)
   pub others : (h : ℕ) → (h ≢ k) → after h ≡ before h
   pub paid : free' + cost (length l) ≡ free
 
 -- the answer of `extend` at handle h and element x, and what it leaves
-pub record Extended {E : Type 0} (before after : Lists E) (free free' : ℕ) (cost : ℕ → ℕ) (h : ℕ) (x : E) (r : Result ℕ StoreFault) : Type 0 where
+pub record Extended {E : Type 0} (before after : Lists E) (free free' : ℕ) (cost : ℕ → ℕ) (h : ℕ) (x : E)
+    (r : Result ℕ StoreFault) : Type 0 where
   pub unlisted : before h ≡ None → r ≡ Err NoList
   pub short : (l : List E) → before h ≡ Some l → free < cost (length l) → r ≡ Err NoRoom
-  pub made : (l : List E) → before h ≡ Some l → cost (length l) ≤ free → (k : ℕ) × (r ≡ Ok k) × Made before after free free' cost l x k
+  pub made : (l : List E) → before h ≡ Some l → cost (length l) ≤ free → (k : ℕ) × (r ≡ Ok k)
+      × Made before after free free' cost l x k
   pub refused : (e : StoreFault) → r ≡ Err e → Same before after × (free' ≡ free)
 
 -- the answer of `look` at an index of a list

@@ -2,7 +2,7 @@
 ghost use Rattle.std.specs.Prelude.{◌≡◌, pos};
 
 /// An element that has a blank.
-// Kept: the library's Default says what holds of a default and not which it is, and contracts have to name the blank.
+// The library's Default says what holds of a default and not which it is, and contracts have to name the blank.
 pub trait Blank {
     ghost unwritten: { Self };
 

@@ -1,5 +1,6 @@
--- What stands at the front of a buffer and what behind it. Assumes nothing.
-use Rattle.std.proofs.Common.{◌≡◌, ℕ, ◌+◌, ◌≤◌, List, ◌++◌, length, take, drop, Ok, Result, sym, ap, ◌∙◌, subst, arith, length-append}
+-- What stands at the front of a buffer and what behind it.
+use Rattle.std.proofs.Common.{◌≡◌, ℕ, ◌+◌, ◌≤◌, List, ◌++◌, length, take, drop, Ok, Result, sym, ap, ◌∙◌, subst}
+use Rattle.std.proofs.Common.{arith, length-append}
 use Rattle.std.proofs.lemmas.List.{take_at, drop_at, take-append-drop}
 use Rattle.syntax.specs.Buffers.{OnlyFront}
 
@@ -15,5 +16,6 @@ module _ (w before after : List ℕ) (n : ℕ) (counted : n ≡ length w) (stand
   )
 
 -- the buffer is its front and what was there behind it
-pub front_and_rest : (F : Type 0) (before after : List ℕ) (n : ℕ) → OnlyFront {F = F} before after (Ok n) → after ≡ take n after ++ drop n before
+pub front_and_rest : (F : Type 0) (before after : List ℕ) (n : ℕ) → OnlyFront {F = F} before after (Ok n)
+    → after ≡ take n after ++ drop n before
 front_and_rest F before after n h = sym (take-append-drop n after) ∙ ap (λ l. take n after ++ l) h.1

@@ -1,4 +1,4 @@
--- The two's complement of `specs/Record` is the library's. Assumes nothing.
+-- The two's complement of `specs/Record` is the library's.
 use Rattle.std.proofs.Common.{◌≡◌, ℕ, suc, ◌-◌, ◌/◌, ◌%◌, List, [], ◌∷◌, ℤ, pos, negsuc, refl, ap, w32, of_z, arith}
 use Rattle.syntax.specs.Record.{complement, four_bytes}
 

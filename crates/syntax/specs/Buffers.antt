@@ -1,4 +1,4 @@
--- What a call leaves in a buffer that it was lent. Assumes nothing.
+-- What a call leaves in a buffer that it was lent.
 use Rattle.std.specs.Prelude.{◌≡◌, ℕ, ◌≤◌, List, length, drop, Ok, Err, Result}
 
 -- A success with n wrote the first n entries and left those behind them; a refusal left the whole buffer.

@@ -1,10 +1,11 @@
--- The kinds of nodes, and the bytes that stand for them. Assumes nothing.
+-- The kinds of nodes, and the bytes that stand for them.
 use Rattle.std.specs.Prelude.{◌≡◌, ℕ, ◌<◌, ◌⊎◌, true, false, Result, MatchResult}
 use Rattle.syntax.specs.declared.kind.Kind.{Kind}
 use Rattle.syntax.specs.declared.kind.Kind.TheVariants as kind
 use Rattle.syntax.specs.declared.kind.UnknownKind.{UnknownKind}
 use Rattle.syntax.specs.declared.node.Node.{Node}
-use Rattle.syntax.specs.declared.node.Node.TheVariants.{Number, Truth, Variable, Reading, Function, Application, LetIn, Sum, AtMost, IfElse}
+use Rattle.syntax.specs.declared.node.Node.TheVariants.{Number, Truth, Variable, Reading, Function, Application}
+use Rattle.syntax.specs.declared.node.Node.TheVariants.{LetIn, Sum, AtMost, IfElse}
 
 -- the byte that a record announces a kind by
 abbrev pub byte_of : Kind → ℕ

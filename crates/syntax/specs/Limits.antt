@@ -1,4 +1,4 @@
--- What the limits promise of each other. Assumes nothing.
+-- What the limits promise of each other.
 use Rattle.std.specs.Prelude.{ℕ, ◌≤◌, length}
 use Rattle.syntax.specs.Tree.{Tree, nodes}
 use Rattle.syntax.specs.Record.{record_of}

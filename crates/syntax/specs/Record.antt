@@ -1,4 +1,4 @@
--- The record of a tree: what a controller is sent. Assumes nothing.
+-- The record of a tree: what a controller is sent.
 use Rattle.std.specs.Prelude.{true, false, List, [], ◌∷◌, ◌++◌, ℤ, pos, negsuc, length, ℕ, ◌+◌, ◌-◌, ◌/◌, ◌%◌}
 use Rattle.syntax.specs.Tree.{Tree, number, truth, variable, function, application, let_in, sum, at_most, if_else}
 
@@ -13,7 +13,8 @@ complement (negsuc n) = 4294967295 - n
 
 -- the four bytes of a number's two's complement, the highest first
 abbrev pub four_bytes : ℤ → List ℕ
-four_bytes k = (complement k / 16777216 % 256) ∷ (complement k / 65536 % 256) ∷ (complement k / 256 % 256) ∷ (complement k % 256) ∷ []
+four_bytes k = (complement k / 16777216 % 256) ∷ (complement k / 65536 % 256) ∷ (complement k / 256 % 256) ∷
+    (complement k % 256) ∷ []
 
 -- a node's kind byte with what follows it, then its children from left to right
 abbrev pub encode : Tree → List ℕ

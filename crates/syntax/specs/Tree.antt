@@ -1,4 +1,4 @@
--- The tree of a rule. Assumes nothing.
+-- The tree of a rule.
 use Rattle.std.specs.Prelude.{Bool, ℤ, ℕ, ◌+◌}
 
 -- A variable is told by its distance: how many binders stand between it and its own. A function and

@@ -8,7 +8,7 @@ use crate::kind::Kind;
 /// A node, its children by their places in the table.
 ///
 /// No table has more than 513 nodes, and a record has two bytes for a distance: 16 bits hold either.
-// Kept: boxes would need a heap, and a controller has none.
+// Boxes would need a heap, and a controller has none.
 #[derive(Clone, Copy, Debug, PartialEq, Eq)]
 pub enum Node {
     Number(i32),

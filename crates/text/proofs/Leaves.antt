@@ -1,4 +1,4 @@
--- A token that is an atom by itself is read as one. Assumes nothing.
+-- A token that is an atom by itself is read as one.
 use Rattle.std.proofs.Common.{◌≡◌, ℕ, true, false, List, ℤ, Some, None, inr, sym, refl, ap, ◌∙◌, subst}
 use Rattle.std.proofs.Common.{Option as Index}
 use mathlib.Core.Option.{Option, some, none}
@@ -7,7 +7,8 @@ use Rattle.syntax.specs.Tree.{Tree}
 use Rattle.syntax.specs.declared.node.Node.{Node}
 use Rattle.syntax.specs.declared.node.Node.TheVariants.{Number, Variable}
 use Rattle.grammar.specs.declared.Mark.{Mark}
-use Rattle.grammar.specs.declared.Mark.TheVariants.{Fun, Let, In, If, Then, Else, True, False, Arrow, Equals, AtMost, Plus, Open, Close}
+use Rattle.grammar.specs.declared.Mark.TheVariants.{Fun, Let, In, If, Then, Else, True, False, Arrow, Equals, AtMost}
+use Rattle.grammar.specs.declared.Mark.TheVariants.{Plus, Open, Close}
 use Rattle.grammar.specs.Automaton.{is_end}
 use Rattle.grammar.specs.Grammar.{Expr, literal, used}
 use Rattle.grammar.specs.Spelling.{fit}
@@ -49,7 +50,8 @@ module _ (book names : List Name) (s : List ℕ) where
   leaf_mark Open e h = cc
   leaf_mark Close e h = cc
 
-  pub leaf_fits : (t : Token) (e : Expr) (u : Tree) → leaf t ≡ some e → resolved names e ≡ some u → Leaf book names s t e
+  pub leaf_fits : (t : Token) (e : Expr) (u : Tree) → leaf t ≡ some e → resolved names e ≡ some u
+      → Leaf book names s t e
   leaf_fits (mark m) e u h k = leaf_mark m e h
   leaf_fits (name x) e u h k =
       let q : used x ≡ e = cc in
@@ -61,10 +63,17 @@ module _ (book names : List Name) (s : List ℕ) where
 -- the node of a token, by what was found of it
 module _ (names : List Name) (p : Stand) where
   -- a number in hand is in range
-  pub number_single : (z : ℤ) (P : Type 0) (Q : ℤ → Type 0) (o : Index ℤ) (m : Index Node) (f : CompileFault) → p.token ≡ numeral z → fit p.token ≡ true → Amount z o → MatchOption o P Q → ((k : ℤ) → o ≡ Some k → Q k → m ≡ Some (Number k)) → Single names p (ok_or m f)
+  pub number_single : (z : ℤ) (P : Type 0) (Q : ℤ → Type 0) (o : Index ℤ) (m : Index Node) (f : CompileFault)
+      → p.token ≡ numeral z → fit p.token ≡ true → Amount z o → MatchOption o P Q → ((k : ℤ) → o ≡ Some k → Q k
+      → m ≡ Some (Number k)) → Single names p (ok_or m f)
   number_single z P Q None m f e h a c made = absurd (cc)
-  number_single z P Q (Some k) m f e h a c made = subst (λ n. Single names p (ok_or n f)) (sym (made k refl c)) (literal z, Tree.number z, ap leaf e, refl, ap Number a.1)
+  number_single z P Q (Some k) m f e h a c made = subst (λ n. Single names p (ok_or n f)) (sym (made k refl c))
+      (literal z, Tree.number z, ap leaf e, refl, ap Number a.1)
 
-  pub name_single : (x : Name) (P : Type 0) (Q : ℕ → Type 0) (o : Index ℕ) (m : Index Node) (f : CompileFault) → p.token ≡ name x → number f ≡ 57 → place f ≡ p.place → Found names x o → MatchOption o P Q → (P → m ≡ None) → ((d : ℕ) → Q d → m ≡ Some (Variable d)) → Single names p (ok_or m f)
-  name_single x P Q None m f e n l a c absent made = subst (λ k. Single names p (ok_or k f)) (sym (absent c)) (inr (n, l, (x, e, a)))
-  name_single x P Q (Some d) m f e n l a c absent made = subst (λ k. Single names p (ok_or k f)) (sym (made d c)) (used x, Tree.variable d, ap leaf e, ap variable_at a, refl)
+  pub name_single : (x : Name) (P : Type 0) (Q : ℕ → Type 0) (o : Index ℕ) (m : Index Node) (f : CompileFault)
+      → p.token ≡ name x → number f ≡ 57 → place f ≡ p.place → Found names x o → MatchOption o P Q → (P → m ≡ None)
+      → ((d : ℕ) → Q d → m ≡ Some (Variable d)) → Single names p (ok_or m f)
+  name_single x P Q None m f e n l a c absent made = subst (λ k. Single names p (ok_or k f)) (sym (absent c))
+      (inr (n, l, (x, e, a)))
+  name_single x P Q (Some d) m f e n l a c absent made = subst (λ k. Single names p (ok_or k f)) (sym (made d c))
+      (used x, Tree.variable d, ap leaf e, ap variable_at a, refl)

@@ -1,4 +1,4 @@
--- What stays known from one call of the parser to the next. Assumes nothing.
+-- What stays known from one call of the parser to the next.
 use Rattle.std.proofs.Common.{◌≡◌, ℕ, ◌<◌, ◌≤◌, false, List, length, min, Ok, ap, subst, arith}
 use Rattle.grammar.specs.Automaton.{is_end}
 use Rattle.grammar.specs.Walking.{Stand, Current, Went, Through}
@@ -11,11 +11,14 @@ use Rattle.text.specs.Standing.{stand}
 use Rattle.text.specs.Parsing.{Source, source, at}
 
 -- the lexer's next token, as one that was gone to
-pub went : (s : List ℕ) (p : Stand) (next : Placed) → p.stop ≤ length s → Lexes s (min p.stop (length s)) (Ok next) → Went s p (stand next)
-went s p next le h = let e : min p.stop (length s) ≡ p.stop = omega arith in (subst (λ n. Next s n (shown next.token) next.place next.stop) e h.0, h.1)
+pub went : (s : List ℕ) (p : Stand) (next : Placed) → p.stop ≤ length s → Lexes s (min p.stop (length s)) (Ok next)
+    → Went s p (stand next)
+went s p next le h = let e : min p.stop (length s) ≡ p.stop = omega arith
+    in (subst (λ n. Next s n (shown next.token) next.place next.stop) e h.0, h.1)
 
 -- a token that is not the end takes at least a byte
-pub further : (src : Source) (p q : Parser) → is_end (at p).token ≡ false → Went src.text (at p) (at q) → p.current.place < q.current.place
+pub further : (src : Source) (p q : Parser) → is_end (at p).token ≡ false → Went src.text (at p) (at q)
+    → p.current.place < q.current.place
 further src p q e w = omega (arith, p.in_hand.some_bytes e, (went_current src.text (at p) (at q) w).1)
 
 module _ (src : Source) (p : Parser) (own : source p ≡ src) where

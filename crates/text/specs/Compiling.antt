@@ -1,5 +1,5 @@
 -- From a tree that was read to its record in the buffer. It serves functions inside; what compile promises does not
--- mention it. Assumes nothing.
+-- mention it.
 use Rattle.std.specs.Prelude.{◌≡◌, ℕ, ◌<◌, ◌≤◌, min, ◌⊎◌, List, ◌++◌, length, drop, Ok, Err, Result}
 use Rattle.syntax.specs.Tree.{Tree, nodes}
 use Rattle.syntax.specs.Record.{encode, record_of}
@@ -18,6 +18,8 @@ pub record Held (table : Table) (t : Tree) (root : ℕ) : Type 0 where
 -- the record of a tree that was read, or why there is none
 abbrev pub Recorded : ℕ → Tree → List ℕ → List ℕ → Result ℕ CompileFault → Type 0
 Recorded readings t before after (Ok n) =
-    (nodes t ≤ 512) × (length (record_of readings t) ≤ length before) × (n ≡ length (record_of readings t)) × (after ≡ record_of readings t ++ drop n before)
+    (nodes t ≤ 512) × (length (record_of readings t) ≤ length before) × (n ≡ length (record_of readings t))
+    × (after ≡ record_of readings t ++ drop n before)
 Recorded readings t before after (Err f) =
-    (after ≡ before) × (((f ≡ TooManyNodes) × (512 < nodes t)) ⊎ ((f ≡ NoRoom) × (nodes t ≤ 512) × (length before < length (record_of readings t))))
+    (after ≡ before) × (((f ≡ TooManyNodes) × (512 < nodes t)) ⊎ ((f ≡ NoRoom) × (nodes t ≤ 512)
+    × (length before < length (record_of readings t))))

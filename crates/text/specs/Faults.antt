@@ -1,4 +1,4 @@
--- The number and the place of each refusal. Assumes nothing.
+-- The number and the place of each refusal.
 use Rattle.std.specs.Prelude.{ℕ}
 use Rattle.lexer.specs.declared.fault.LexFault.TheVariants.{NoToken, OutOfRange}
 use Rattle.text.specs.declared.fault.CompileFault.{CompileFault}

@@ -1,4 +1,4 @@
--- Which names are open. Assumes nothing.
+-- Which names are open.
 use Rattle.std.specs.Prelude.{◌≡◌, List, map, reverse}
 use Rattle.grammar.specs.Token as plain
 use Rattle.text.specs.declared.scope.Scope.{Scope}

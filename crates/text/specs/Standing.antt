@@ -1,4 +1,4 @@
--- What the token in hand stands for. Assumes nothing.
+-- What the token in hand stands for.
 use Rattle.grammar.specs.Walking.{Stand}
 use Rattle.lexer.specs.Shown.{shown}
 use Rattle.lexer.specs.declared.token.Placed.{Placed}

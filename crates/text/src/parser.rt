@@ -77,7 +77,7 @@ impl<'a> Parser<'a> {
     }
 }
 
-// Kept: `Room` and `Restored` speak of a scope apart, as one inside the parser would go to the guard with the whole parser, and `drop` would owe the rest of it.
+// `Room` and `Restored` speak of a scope apart, as one inside the parser would go to the guard with the whole parser, and `drop` would owe the rest of it.
 impl<'a> Parser<'a> {
     ghost use Rattle.std.specs.Prelude.{◌≡◌, ◌+◌, ◌*◌, ◌≤◌, false, ◌∷◌, ◌++◌};
     ghost use Rattle.arrayvec.specs.ArrayVec.{array_vec_len};

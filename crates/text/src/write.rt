@@ -13,7 +13,7 @@ pub(crate) fn two_bytes(value: u16) -> [u8; 2]
 }
 
 /// A buffer, and the place up to which it is written.
-// Kept: a writer of the rest alone would say by a `follows` what the whole buffer ends as, and of its `put` that is proved by hand only (`put_spec`).
+// A writer of the rest alone would say by a `follows` what the whole buffer ends as, and of its `put` that is proved by hand only (`put_spec`).
 #[derive(Drop)]
 pub(crate) struct Writer<'a> {
     pub(crate) out: &'a mut [u8],

@@ -1,5 +1,6 @@
--- Links made shorter: the tables say the same. Assumes nothing.
-use Rattle.std.proofs.Common.{length, Bor, ◌≡◌, ℕ, ◌+◌, ◌*◌, ◌<◌, ◌≢◌, List, Ok, Err, Result, set, sym, refl, ◌∙◌, subst, ap, arith}
+-- Links made shorter: the tables say the same.
+use Rattle.std.proofs.Common.{length, Bor, ◌≡◌, ℕ, ◌+◌, ◌*◌, ◌<◌, ◌≢◌, List, Ok, Err, Result, set, sym, refl, ◌∙◌}
+use Rattle.std.proofs.Common.{subst, ap, arith}
 use Rattle.calculus.specs.Types.{Ty}
 use Rattle.record.specs.declared.received.Received.{Received}
 use Rattle.typing.specs.declared.clash.Clash.{Clash}
@@ -8,7 +9,8 @@ use Rattle.typing.specs.declared.shape.Shape.TheVariants.{Open, Link, Arrow}
 use Rattle.typing.specs.Shapes.{shape_at}
 use Rattle.typing.specs.Classes.{InOrder, Sound, Says, Agrees, stands}
 use Rattle.typing.specs.Unified.{Unlinked, StandsFor, Kept, Added, Tried}
-use Rattle.typing.proofs.Merging.{link_shape, shape_other, shape_new, sound_new, agrees_new, agrees_old, says_new, classes_new, next_link, agrees_there, tried_there}
+use Rattle.typing.proofs.Merging.{link_shape, shape_other, shape_new, sound_new, agrees_new, agrees_old, says_new}
+use Rattle.typing.proofs.Merging.{classes_new, next_link, agrees_there, tried_there}
 
 pub kept_same : (m : ℕ) (f s : List ℕ) → Sound m f s → Kept m f s f s
 kept_same m f s sound =
@@ -27,7 +29,8 @@ module _ (m : ℕ) (f s f₁ s₁ f₂ s₂ : List ℕ) where
 
   -- ── before and after a condition ──
 
-  pub kept_tried : (A : (ℕ → Ty) → Type 0) (t : Result (Unit {0}) Clash) → Kept m f s f₁ s₁ → Tried m f₁ s₁ f₂ s₂ A t → Tried m f s f₂ s₂ A t
+  pub kept_tried : (A : (ℕ → Ty) → Type 0) (t : Result (Unit {0}) Clash) → Kept m f s f₁ s₁ → Tried m f₁ s₁ f₂ s₂ A t
+      → Tried m f s f₂ s₂ A t
   kept_tried A (Ok u) a b =
       record {
         sound = b.sound;
@@ -48,7 +51,8 @@ module _ (m : ℕ) (f s f₁ s₁ f₂ s₂ : List ℕ) where
         after = λ θ g h. b.after θ (a.after θ g h);
       }
 
-pub stands_kept : (m : ℕ) (f s f' s' : List ℕ) (x y : ℕ) → Kept m f s f' s' → StandsFor m f s x y → StandsFor m f' s' x y
+pub stands_kept : (m : ℕ) (f s f' s' : List ℕ) (x y : ℕ) → Kept m f s f' s' → StandsFor m f s x y
+    → StandsFor m f' s' x y
 stands_kept m f s f' s' x y kept to =
     record {
       inside = to.inside;
@@ -58,7 +62,8 @@ stands_kept m f s f' s' x y kept to =
 
 -- ── one link made shorter ──
 
-module _ (m : ℕ) (f s : List ℕ) (x y z : ℕ) (sound : Sound m f s) (inside : x < m + 2) (next : shape_at f s x ≡ Link y) (further : shape_at f s y ≡ Link z) where
+module _ (m : ℕ) (f s : List ℕ) (x y z : ℕ) (sound : Sound m f s) (inside : x < m + 2)
+    (next : shape_at f s x ≡ Link y) (further : shape_at f s y ≡ Link z) where
   order_x : InOrder m x (Link y)
   order_x = subst (InOrder m x) next (sound.each x inside)
 
@@ -81,7 +86,8 @@ module _ (m : ℕ) (f s : List ℕ) (x y z : ℕ) (sound : Sound m f s) (inside 
         before = λ θ g.
             let here = says_new m f s x (z + 1) 0 (Link z) (link_shape z) sound inside θ g in
             let there : θ y ≡ θ z = subst (Says θ y) still (g.each y a.2) in
-            agrees_old m f s x (z + 1) 0 (Link z) (link_shape z) sound inside θ g (subst (Says θ x) (sym next) (here ∙ sym there));
+            agrees_old m f s x (z + 1) 0 (Link z) (link_shape z) sound inside θ g (subst (Says θ x) (sym next) (here
+            ∙ sym there));
         after = λ θ g.
             let here : θ x ≡ θ y = subst (Says θ x) next (g.each x inside) in
             let there : θ y ≡ θ z = subst (Says θ y) further (g.each y a.2) in
@@ -93,11 +99,13 @@ module _ (m : ℕ) (f s : List ℕ) (x y z : ℕ) (sound : Sound m f s) (inside 
 
   module _ (f' s' : List ℕ) (is_first : f' ≡ set f x (z + 1)) (is_second : s' ≡ set s x 0) where
     pub kept_shorter : Kept m f s f' s'
-    kept_shorter = subst (λ a. Kept m f s a s') (sym is_first) (subst (λ b. Kept m f s (set f x (z + 1)) b) (sym is_second) kept_past)
+    kept_shorter = subst (λ a. Kept m f s a s') (sym is_first) (subst (λ b. Kept m f s (set f x (z + 1)) b)
+        (sym is_second) kept_past)
 
     pub link_past : shape_at f' s' x ≡ Link z
     link_past =
-        ap (λ a. shape_at a s' x) is_first ∙ ap (λ b. shape_at (set f x (z + 1)) b x) is_second ∙ shape_new m f s x (z + 1) 0 (Link z) (link_shape z) sound inside
+        ap (λ a. shape_at a s' x) is_first ∙ ap (λ b. shape_at (set f x (z + 1)) b x) is_second
+        ∙ shape_new m f s x (z + 1) 0 (Link z) (link_shape z) sound inside
 
 -- a link followed once the tables say the same in other words
 pub skipped :

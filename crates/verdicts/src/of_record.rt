@@ -111,7 +111,7 @@ impl Refused<'_> {
 }
 
 /// What a node of a kind is called.
-// Kept: the kinds belong to a crate that has no words, and only the crate of a type may print it.
+// The kinds belong to a crate that has no words, and only the crate of a type may print it.
 fn named(kind: Kind) -> &'static str {
     match kind {
         Kind::Number => "a number",

@@ -45,7 +45,7 @@ pub fn verdict_on<'a>(
     let mut second = vec![in heap; 0u16; TABLE]?;
     let mut types = vec![in heap; 0u16; MOST_ENTRIES]?;
     let mut rule = Rule::new();
-    // Kept: the words of a type may fail for want of memory, and what `map` calls takes no `?` along.
+    // The words of a type may fail for want of memory, and what `map` calls takes no `?` along.
     match accept(record, &mut first, &mut second, &mut types, &mut rule) {
         Ok(count) => Ok(Ok(Accepted {
             nodes: rule.received.nodes.len(),

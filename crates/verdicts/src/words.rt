@@ -25,7 +25,7 @@ struct OpenArrow {
 }
 
 /// A type that is being written.
-// Kept: a recursion over the two sides of an arrow would go as deep as a type has arrows, up to 32,767.
+// A recursion over the two sides of an arrow would go as deep as a type has arrows, up to 32,767.
 #[derive(Drop)]
 struct Words {
     written: String,

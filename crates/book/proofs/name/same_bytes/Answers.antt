@@ -8,4 +8,5 @@ pub returns : goal.returns
 returns c =
     let a = c.args.a.now in
     let b = c.args.b.now in
-    same_from_decides c.eq.result (same a b) (slice_eq-Decides Decides-eqb a b c.eq.result c.eq.ensures) (compares_Decides same (search rules) a b)
+    same_from_decides c.eq.result (same a b) (slice_eq-Decides Decides-eqb a b c.eq.result c.eq.ensures)
+    (compares_Decides same (search rules) a b)

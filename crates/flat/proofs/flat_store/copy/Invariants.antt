@@ -6,4 +6,5 @@ use Rattle.flat.proofs.flat_store.copy.Given as goal
 abbrev pub invariant-loop-j : goal.invariant-loop-j
 invariant-loop-j g l =
     ((k : ℕ) → k < l.to → get_or l.slots k Spare ≡ get_or l.initial.slots k Spare)
-    × ((i : ℕ) → i < l.j → get_or l.slots (l.to + i) Spare ≡ Element (element_of g.T.Blank.unwritten (get_or l.initial.slots (l.from + i) Spare)))
+    × ((i : ℕ) → i < l.j → get_or l.slots (l.to + i) Spare ≡ Element (element_of g.T.Blank.unwritten
+    (get_or l.initial.slots (l.from + i) Spare)))

@@ -4,4 +4,5 @@ use Rattle.lexer.proofs.scan.is_name.Goals as goal
 
 pub returns : goal.returns
 returns c =
-    all_name c.args.bytes.now c.token.result c.is_ok_and.result (search (rules, tests)) c.token.ensures c.is_ok_and.ensures (λ p asked. search (rules, tests))
+    all_name c.args.bytes.now c.token.result c.is_ok_and.result (search (rules, tests)) c.token.ensures
+    c.is_ok_and.ensures (λ p asked. search (rules, tests))

@@ -16,4 +16,6 @@ pub returns-in-Number : goal.returns-in-Number
 returns-in-Number c =
     let s = c.args.text.now in
     let p = c.in_ok-next.next in
-    no_range (subst (λ t. Next s (min c.args.from (length s)) t p.place p.stop) (ap shown c.in-Number.is) c.in_ok-next.ensures.0) (amount_none (value c.in-Number.spelled.now) c.amount.result c.amount.ensures c.if-is_none.ensures)
+    no_range (subst (λ t. Next s (min c.args.from (length s)) t p.place p.stop) (ap shown c.in-Number.is)
+    c.in_ok-next.ensures.0) (amount_none (value c.in-Number.spelled.now) c.amount.result c.amount.ensures
+    c.if-is_none.ensures)

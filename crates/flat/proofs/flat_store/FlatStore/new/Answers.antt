@@ -4,4 +4,5 @@ use Rattle.store.proofs.Filled.{filled}
 use Rattle.flat.proofs.flat_store.FlatStore.new.Goals as goal
 
 pub returns-clause-wiped : goal.returns-clause-wiped
-returns-clause-wiped g c = filled Spare _ (λ p x q s. search (rules, tests)) _ _ _ c.fill_with.ensures.len c.fill_with.ensures.ran.1
+returns-clause-wiped g c = filled Spare _ (λ p x q s. search (rules, tests)) _ _ _ c.fill_with.ensures.len
+    c.fill_with.ensures.ran.1

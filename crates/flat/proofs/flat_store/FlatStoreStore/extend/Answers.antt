@@ -8,6 +8,7 @@ returns-clause-extended g c =
     let slots = c.args.self.now.slots.now in
     let used = c.args.self.now.used in
     let span = c.in_ok-span.span in
-    let here = located_some c.args.handle (span_of slots used c.args.handle) span (sym c.span.ensures.span ∙ c.in_ok-span.ensures.ok_part) in
+    let here = located_some c.args.handle (span_of slots used c.args.handle) span (sym c.span.ensures.span
+    ∙ c.in_ok-span.ensures.ok_part) in
     extends g.T.Blank.unwritten slots c.place.new.slots used c.args.handle span.length span.begins c.args.elem
     here.0 c.place.auto.slots (omega arith) (omega (arith, here.1)) c.place.ensures

@@ -6,5 +6,8 @@ use Rattle.lexer.proofs.run.Kind.run.Goals as goal
 
 pub returns : goal.returns
 returns c =
-    run_found c.args.self c.args.text.now c.args.from c.requires c.position.result c.map_or.result c.map_or.ensures (λ n past. search (rules, tests))
-    (IsFirst-from_position _ _ _ (IsNot c.args.self) (Is c.args.self) c.position.ensures.ran (YieldsList-from_slice (drop c.args.from c.args.text.now) (c.iter.ensures.rest ∙ take_rest c.args.text.now c.args.from)) (λ x q k. search (rules, tests)) (λ x q k. search (rules, tests)))
+    run_found c.args.self c.args.text.now c.args.from c.requires c.position.result c.map_or.result c.map_or.ensures
+    (λ n past. search (rules, tests))
+    (IsFirst-from_position _ _ _ (IsNot c.args.self) (Is c.args.self) c.position.ensures.ran
+    (YieldsList-from_slice (drop c.args.from c.args.text.now) (c.iter.ensures.rest
+    ∙ take_rest c.args.text.now c.args.from)) (λ x q k. search (rules, tests)) (λ x q k. search (rules, tests)))

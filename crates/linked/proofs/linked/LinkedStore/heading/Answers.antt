@@ -20,14 +20,20 @@ returns g c =
     let under = c.length-under.result in
     let made = store.inside in
     let inside : handle ≤ length store.cells.now = omega (arith, made, c.requires) in
-    let second : (c.if-under-eq0.skip ≤ store.made) × (list_of blank store.cells.now c.if-under-eq0.skip ≡ drop (under % 8) (list_of blank store.cells.now handle)) =
+    let second : (c.if-under-eq0.skip ≤ store.made) × (list_of blank store.cells.now c.if-under-eq0.skip ≡ drop
+    (under % 8) (list_of blank store.cells.now handle)) =
     elim c.if-under-eq0.branch [
       | then-under-eq0 w ↦ (
         omega (arith, w.skip-is, c.requires),
-        ap (λ n. list_of blank store.cells.now n) w.skip-is ∙ sym (ap (λ n. drop n (list_of blank store.cells.now handle)) w.if-under-eq0.true),
+        ap (λ n. list_of blank store.cells.now n) w.skip-is
+            ∙ sym (ap (λ n. drop n (list_of blank store.cells.now handle)) w.if-under-eq0.true),
       )
       | else-under-eq0 w ↦
-          let more : 0 < length (list_of blank store.cells.now handle) = omega (arith, c.length-under.ensures, w.if-under-eq0.false) in
+          let more : 0 < length (list_of blank store.cells.now handle) = omega (
+            arith,
+            c.length-under.ensures,
+            w.if-under-eq0.false,
+          ) in
           let some = some_handle blank store.cells.now handle 0 more in
           let cell = w.index-self-handle.result in
           let is = w.skip-is ∙ ap (λ (e : Cell g.row.T.Denot). e.skip) (sym w.index-self-handle.is) in
@@ -35,7 +41,8 @@ returns g c =
           let low = tells.far_down in (
             omega (arith, is, low, c.requires),
             ap (λ n. list_of blank store.cells.now n) is
-                ∙ read_cut blank store.cells.now store.told handle cell some inside w.index-self-handle.is under c.length-under.ensures w.if-under-eq0.false,
+                ∙ read_cut blank store.cells.now store.told handle cell some inside w.index-self-handle.is under
+                c.length-under.ensures w.if-under-eq0.false,
           )
     ] in
     record {

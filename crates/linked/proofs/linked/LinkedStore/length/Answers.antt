@@ -10,7 +10,8 @@ returns g c =
     let made = c.args.self.now.inside in
     let some : 0 < c.args.handle = omega (arith, c.if-handle-eq0.false) in
     let inside : c.args.handle ≤ length cells = omega (arith, made, c.requires) in
-    let long = read_length g.T.Blank.unwritten cells c.args.self.now.told c.args.handle cell some inside c.index-self-handle.is in
+    let long = read_length g.T.Blank.unwritten cells c.args.self.now.told c.args.handle cell some inside
+    c.index-self-handle.is in
     ap (λ (e : Cell g.row.T.Denot). e.under + 1) (sym c.index-self-handle.is) ∙ long
 
 pub overflow_cast-result : goal.overflow_cast-result
@@ -20,7 +21,8 @@ overflow_cast-result g c =
     let made = c.args.self.now.inside in
     let some : 0 < c.args.handle = omega (arith, c.if-handle-eq0.false) in
     let inside : c.args.handle ≤ length cells = omega (arith, made, c.requires) in
-    let low = read_low g.T.Blank.unwritten cells c.args.self.now.told c.args.handle cell some inside c.index-self-handle.is in
+    let low = read_low g.T.Blank.unwritten cells c.args.self.now.told c.args.handle cell some inside
+    c.index-self-handle.is in
     let same = ap (λ (e : Cell g.row.T.Denot). e.under) c.index-self-handle.is in
     let fits = c.ranges.handle.fits in
     omega (arith, low, same, fits)
@@ -32,7 +34,8 @@ overflow_add-result g c =
     let made = c.args.self.now.inside in
     let some : 0 < c.args.handle = omega (arith, c.if-handle-eq0.false) in
     let inside : c.args.handle ≤ length cells = omega (arith, made, c.requires) in
-    let low = read_low g.T.Blank.unwritten cells c.args.self.now.told c.args.handle cell some inside c.index-self-handle.is in
+    let low = read_low g.T.Blank.unwritten cells c.args.self.now.told c.args.handle cell some inside
+    c.index-self-handle.is in
     let same = ap (λ (e : Cell g.row.T.Denot). e.under) c.index-self-handle.is in
     let fits = c.ranges.handle.fits in
     omega (arith, low, same, fits)

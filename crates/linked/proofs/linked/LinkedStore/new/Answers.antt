@@ -7,7 +7,8 @@ use Rattle.linked.proofs.linked.LinkedStore.new.Goals as goal
 pub invariant_of-result : goal.invariant_of-result
 invariant_of-result g c =
     let blank = blank_cell g.T.Blank.unwritten in
-    let all = filled blank _ (λ p x q s. search (rules, tests)) _ _ _ c.fill_with.ensures.len c.fill_with.ensures.ran.1 in
+    let all = filled blank _ (λ p x q s. search (rules, tests)) _ _ _ c.fill_with.ensures.len
+    c.fill_with.ensures.ran.1 in
     record {
       inside = omega arith;
       told = blanks_told g.T.Blank.unwritten _ _ all;
@@ -15,4 +16,5 @@ invariant_of-result g c =
     }
 
 pub returns-clause-wiped : goal.returns-clause-wiped
-returns-clause-wiped g c = filled (blank_cell g.T.Blank.unwritten) _ (λ p x q s. search (rules, tests)) _ _ _ c.fill_with.ensures.len c.fill_with.ensures.ran.1
+returns-clause-wiped g c = filled (blank_cell g.T.Blank.unwritten) _ (λ p x q s. search (rules, tests)) _ _ _
+    c.fill_with.ensures.len c.fill_with.ensures.ran.1

@@ -12,12 +12,14 @@ invariant_of-self-2 g c =
     let long = length-set store.cells.now store.made c.heading-cell.result in
     record {
       inside = omega (arith, long, c.requires.room);
-      told = told_set blank store.cells.now store.made c.heading-cell.result inside store.spare store.told c.heading-cell.ensures.tells;
+      told = told_set blank store.cells.now store.made c.heading-cell.result inside store.spare store.told
+          c.heading-cell.ensures.tells;
       spare = spare_set blank store.cells.now store.made c.heading-cell.result inside store.spare;
     }
 
 pub returns-clause-pushed : goal.returns-clause-pushed
 returns-clause-pushed g c =
     let store = c.args.self.now in
-    extends g.T.Blank.unwritten store.cells.now store.made c.args.handle c.args.element c.heading-cell.result c.requires.known
+    extends g.T.Blank.unwritten store.cells.now store.made c.args.handle c.args.element c.heading-cell.result
+    c.requires.known
     (omega (arith, c.requires.room)) c.heading-cell.ensures.element c.heading-cell.ensures.below

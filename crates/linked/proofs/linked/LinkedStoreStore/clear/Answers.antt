@@ -8,7 +8,8 @@ pub invariant_of-self : goal.invariant_of-self
 invariant_of-self g c =
     let blank = g.T.Blank.unwritten in
     let front = all_filled (blank_cell blank) (λ p x q s. search (rules, tests)) _ _ _ c.fill_with.ensures.ran.1 in
-    let all = blanked blank c.fill_with.new.self c.args.self.now.cells.now c.args.self.now.made front c.args.self.now.spare in
+    let all = blanked blank c.fill_with.new.self c.args.self.now.cells.now c.args.self.now.made front
+    c.args.self.now.spare in
     record {
       inside = omega arith;
       told = blanks_told blank _ _ all;

@@ -9,18 +9,22 @@ reading-requires g c =
 
 pub returns-in-Err-Beyond : goal.returns-in-Err-Beyond
 returns-in-Err-Beyond g c =
-    looked_beyond (values_of c.args.self.now.readings) (g.S.Store.lists c.args.self.now.below) c.args.handle c.args.index
+    looked_beyond (values_of c.args.self.now.readings) (g.S.Store.lists c.args.self.now.below) c.args.handle
+    c.args.index
     c.in-Err-Beyond.length _ (rw c.in-Err-Beyond.field-0-is at c.in-Err-Beyond.ensures) c.reading.ensures
 
 pub returns-in-Ok : goal.returns-in-Ok
 returns-in-Ok g c =
-    looked_ok (values_of c.args.self.now.readings) (g.S.Store.lists c.args.self.now.below) c.args.handle c.args.index _ c.in-Ok.ensures
+    looked_ok (values_of c.args.self.now.readings) (g.S.Store.lists c.args.self.now.below) c.args.handle c.args.index
+    _ c.in-Ok.ensures
 
 pub returns-in-Err-NoList : goal.returns-in-Err-NoList
 returns-in-Err-NoList g c =
-    looked_no_list (values_of c.args.self.now.readings) (g.S.Store.lists c.args.self.now.below) c.args.handle c.args.index
+    looked_no_list (values_of c.args.self.now.readings) (g.S.Store.lists c.args.self.now.below) c.args.handle
+    c.args.index
     (rw c.in-Err-NoList.field-0-is at c.in-Err-NoList.ensures)
 
 pub unreachable-requires : goal.unreachable-requires
 unreachable-requires g c =
-    look_has_room (g.S.Store.lists c.args.self.now.below) c.args.handle c.args.index (rw c.in-Err-NoRoom.field-0-is at c.in-Err-NoRoom.ensures)
+    look_has_room (g.S.Store.lists c.args.self.now.below) c.args.handle c.args.index
+    (rw c.in-Err-NoRoom.field-0-is at c.in-Err-NoRoom.ensures)

@@ -38,13 +38,15 @@ decreases-sum l = left l.self.now 5
 
 abbrev pub invariant-application-loop-self : goal.invariant-application-loop-self
 invariant-application-loop-self l =
-    Restored l.initial.scope l.scope × ApplicationSoFar (source l.initial.self) (open_names l.initial.scope) l.initial.self l.initial.function l.self l.function
+    Restored l.initial.scope l.scope × ApplicationSoFar (source l.initial.self) (open_names l.initial.scope)
+    l.initial.self l.initial.function l.self l.function
 
 abbrev pub decreases-application-loop-self : goal.decreases-application-loop-self
 decreases-application-loop-self l = length l.self.text.now - l.self.current.place
 
 abbrev pub invariant-sum-loop-self : goal.invariant-sum-loop-self
-invariant-sum-loop-self l = Restored l.initial.scope l.scope × SumSoFar (source l.initial.self) (open_names l.initial.scope) l.initial.self l.initial.left l.self l.left
+invariant-sum-loop-self l = Restored l.initial.scope l.scope × SumSoFar (source l.initial.self)
+    (open_names l.initial.scope) l.initial.self l.initial.left l.self l.left
 
 abbrev pub decreases-sum-loop-self : goal.decreases-sum-loop-self
 decreases-sum-loop-self l = length l.self.text.now - l.self.current.place

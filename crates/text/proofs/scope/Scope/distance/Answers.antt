@@ -11,7 +11,12 @@ or_else-requires c =
     λ _ _ _ _ _ _ find _ reading is _ _ _ _ _.
     let all = names c.args.book.now in
     let x = c.args.name.now in
-    omega (arith, c.len-open.ensures.fits, names_few c.args.book.now, distance-< all x reading (subst (Found all x) is find.ensures))
+    omega (
+      arith,
+      c.len-open.ensures.fits,
+      names_few c.args.book.now,
+      distance-< all x reading (subst (Found all x) is find.ensures),
+    )
 
 pub map-requires : goal.map-requires
 map-requires c =
@@ -20,7 +25,8 @@ map-requires c =
     let xs = open_names c.args.self.now in
     let ys = names c.args.book.now in
     let long = c.len-open.ensures.value ∙ sym (length_open c.args.self.now) in
-    let found = behind_scope c.args.self.now ys x _ _ _ _ c.len-open.ensures.value c.find.ensures c.or_else.ensures (λ post. search (rules, tests)) in
+    let found = behind_scope c.args.self.now ys x _ _ _ _ c.len-open.ensures.value c.find.ensures c.or_else.ensures
+    (λ post. search (rules, tests)) in
     let low = distance-< (xs ++ ys) x d (subst (Found (xs ++ ys) x) is found) in
     omega (arith, c.len-open.ensures.fits, long, names_few c.args.book.now, length-append xs ys, low)
 
@@ -28,5 +34,6 @@ pub returns : goal.returns
 returns c =
     let x = c.args.name.now in
     let ys = names c.args.book.now in
-    let found = behind_scope c.args.self.now ys x _ _ _ _ c.len-open.ensures.value c.find.ensures c.or_else.ensures (λ post. search (rules, tests)) in
+    let found = behind_scope c.args.self.now ys x _ _ _ _ c.len-open.ensures.value c.find.ensures c.or_else.ensures
+    (λ post. search (rules, tests)) in
     found_narrowed _ x _ _ _ c.map.result found c.map.ensures.cases (λ no. no) (λ d made. search (rules, tests))

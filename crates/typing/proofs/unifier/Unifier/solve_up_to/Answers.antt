@@ -15,8 +15,10 @@ returns-in_err-add_tree c = λ t tree.
     let p = err_from_is_err_and c.from_residual.result c.from_residual.ensures.1 in
     let cannot =
     whole_refused _ t c.args.last _ _ _ _ _ _ _ _ here c.new-store.ensures.cleared.root c.clear.ensures.blank.0
-    c.clear.ensures.blank.1 _ c.in_err-add_tree.ensures.walked.1 in
-    (c.in_err-add_tree.ensures.walked.0 ∙ same, rw p.1 (subst (λ b. CannotMeet b.now.readings t c.args.last) same cannot))
+    c.clear.ensures.blank.1 _ c.in_err-add_tree.ensures.walked.1 in (
+      c.in_err-add_tree.ensures.walked.0 ∙ same,
+      rw p.1 (subst (λ b. CannotMeet b.now.readings t c.args.last) same cannot),
+    )
 
 pub returns : goal.returns
 returns c = λ t tree.
@@ -29,5 +31,8 @@ returns c = λ t tree.
     let after = c.shorten_all.new.self in
     let reached =
     whole_reached _ t c.args.last _ _ _ _ _ _ _ _ here c.new-store.ensures.cleared.root c.clear.ensures.blank.0
-    c.clear.ensures.blank.1 _ _ c.stays_finite.result walked.1 (kept_there _ _ walked.0 _ _ _ _ shorter.1) decided in
-    (there ∙ same, subst (λ b. Reached b.now.readings t c.args.last after.first.now after.second.now c.stays_finite.result) same reached)
+    c.clear.ensures.blank.1 _ _ c.stays_finite.result walked.1 (kept_there _ _ walked.0 _ _ _ _ shorter.1) decided in (
+      there ∙ same,
+      subst (λ b. Reached b.now.readings t c.args.last after.first.now after.second.now
+          c.stays_finite.result) same reached,
+    )
