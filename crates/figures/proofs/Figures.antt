@@ -1,4 +1,4 @@
--- The figures, by computation. Assumes nothing.
+-- The figures, by computation.
 use Rattle.std.proofs.Common.{ℕ, List, [], ◌∷◌, codes, pos, negsuc, true, refl}
 use Rattle.grammar.specs.Token.{Name}
 use Rattle.grammar.specs.Grammar.{Expr, literal, boolean, used, lambda, apply, let_in, plus, at_most, if_else}
@@ -10,7 +10,8 @@ use Rattle.calculus.specs.Figures.{heating, thrice, identity, itself, no_functio
 use Rattle.reckoning.specs.Figures.{kept_twice}
 use Rattle.figures.specs.Figures.{Compiles, Figures}
 use Rattle.figures.proofs.Reading.{compiles}
-use Rattle.figures.proofs.Typing.{heating_general, thrice_general, leaving_general, nested_general, itself_unmet, no_function_met, no_function_unmet, is_accepted, is_refused}
+use Rattle.figures.proofs.Typing.{heating_general, thrice_general, leaving_general, nested_general, itself_unmet}
+use Rattle.figures.proofs.Typing.{no_function_met, no_function_unmet, is_accepted, is_refused}
 
 -- ── texts ──
 
@@ -37,7 +38,8 @@ abbrev one_name : List Name
 one_name = codes "coil" ∷ []
 
 heating_compiles :
-    Compiles one_name (codes "if 80 <= coil then 1 else 0") heating (codes "001601010a09010000005004000001000000010100000000")
+    Compiles one_name (codes "if 80 <= coil then 1 else 0") heating
+    (codes "001601010a09010000005004000001000000010100000000")
 heating_compiles =
     compiles _ _ (if_else (at_most (k 80) coil) (k 1) (k 0)) _ _ refl refl refl refl refl refl refl
 
@@ -50,7 +52,8 @@ thrice_compiles :
 thrice_compiles = compiles _ _ rule _ _ refl refl refl refl refl refl refl
   where
     rule : Expr
-    rule = apply (apply (lambda (codes "f") (lambda (codes "x") (plus x (apply f x)))) (lambda (codes "y") (plus y y))) (k 7)
+    rule = apply (apply (lambda (codes "f") (lambda (codes "x") (plus x (apply f x))))
+        (lambda (codes "y") (plus y y))) (k 7)
 
 identity_compiles : Compiles no_names (codes "fun x -> x") identity (codes "0006010005040000")
 identity_compiles = compiles _ _ (lambda (codes "x") x) _ _ refl refl refl refl refl refl refl

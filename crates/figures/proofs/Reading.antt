@@ -1,5 +1,7 @@
--- A lexer that computes, and what a text means by it. Assumes nothing.
-use Rattle.std.proofs.Common.{◌≡◌, ℕ, zero, suc, ◌+◌, ◌-◌, ◌<◌, ◌≤◌, Bool, true, false, cond, not, ◌&&◌, ◌⊎◌, List, [], ◌∷◌, ◌++◌, length, get_or, nat_lt, nat_le, sym, refl, subst, inl, inr, ⊎_elim, true≢false, arith}
+-- A lexer that computes, and what a text means by it.
+use Rattle.std.proofs.Common.{◌≡◌, ℕ, zero, suc, ◌+◌, ◌-◌, ◌<◌, ◌≤◌, Bool, true, false, cond, not, ◌&&◌, ◌⊎◌, List}
+use Rattle.std.proofs.Common.{[], ◌∷◌, ◌++◌, length, get_or, nat_lt, nat_le, sym, refl, subst, inl, inr, ⊎_elim}
+use Rattle.std.proofs.Common.{true≢false, arith}
 use mathlib.Core.Option.{Option, some, none}
 use Rattle.std.proofs.lemmas.Bool.Decides.{nat_tests}
 use Rattle.syntax.specs.Tree.{Tree, nodes}
@@ -7,7 +9,7 @@ use Rattle.syntax.specs.Record.{record_of}
 use Rattle.figures.specs.Digits.{shown}
 use Rattle.grammar.specs.Token.{Name, Token, end}
 use Rattle.grammar.specs.Spelling.{blank, token, fit}
-use Rattle.grammar.specs.Reading.{part, Blanks, NoneBeyond, Next}
+use Rattle.grammar.specs.Reading.{part, Blanks, NoneBeyond, Longest}
 use Rattle.grammar.specs.Grammar.{Expr}
 use Rattle.grammar.specs.Names.{resolved}
 use Rattle.grammar.specs.Automaton.{go, accepted, is_end, start, run, in_force}
@@ -32,7 +34,10 @@ module _ (s : List ℕ) where
   one_more a i b lt h = (
     omega (arith, b.0),
     omega arith,
-    λ j low high. ⊎_elim (λ (e : j < i). b.2 j low e) (λ (e : j ≡ i). subst (λ k. blank (get_or s k 0) ≡ true) (sym e) h) (split j i (omega (arith, high))),
+    λ j low high. ⊎_elim
+        (λ (e : j < i). b.2 j low e)
+        (λ (e : j ≡ i). subst (λ k. blank (get_or s k 0) ≡ true) (sym e) h)
+        (split j i (omega (arith, high))),
   )
     where
       split : (j i : ℕ) → j < i + 1 → (j < i) ⊎ (j ≡ i)
@@ -42,7 +47,10 @@ module _ (s : List ℕ) where
   skips a zero i b = b
   skips a (suc n) i b = by (nat_lt i (length s) && blank (get_or s i 0)) refl (λ b'. skips a n (i + 1) b')
     where
-      by : (test : Bool) → (nat_lt i (length s) && blank (get_or s i 0)) ≡ test → (Blanks s a (i + 1) → Blanks s a (skip n (i + 1))) → Blanks s a (cond test (skip n (i + 1)) i)
+      by : (test : Bool) →
+          (nat_lt i (length s) && blank (get_or s i 0)) ≡ test →
+          (Blanks s a (i + 1) → Blanks s a (skip n (i + 1))) →
+          Blanks s a (cond test (skip n (i + 1)) i)
       by false e rest = b
       by true e rest =
           let h = both (nat_lt i (length s)) (blank (get_or s i 0)) e in
@@ -64,22 +72,28 @@ module _ (s : List ℕ) where
   no_token none h = refl
   no_token (some t) h = absurd (true≢false h)
 
-  -- from a stop up to a bound no bytes spell a token
-  abbrev NoneUpTo : ℕ → ℕ → ℕ → Type 0
-  NoneUpTo place stop bound = (n : ℕ) → stop < n → n ≤ bound → token (part s place n) ≡ none
+  -- a stop within a bound, from which on up to the bound no bytes spell a token
+  abbrev Reaches : ℕ → ℕ → ℕ → Type 0
+  Reaches place bound stop = (stop ≤ bound) × ((n : ℕ) → stop < n → n ≤ bound → token (part s place n) ≡ none)
 
-  reaches : (place n : ℕ) → (reach place n ≤ place + n) × NoneUpTo place (reach place n) (place + n)
+  reaches : (place n : ℕ) → Reaches place (place + n) (reach place n)
   reaches place zero = (omega arith, λ n low high. absurd (omega arith))
   reaches place (suc n) = by (is_token (token (part s place (place + suc n)))) refl (reaches place n)
     where
       split : (m : ℕ) → m ≤ place + suc n → (m ≤ place + n) ⊎ (m ≡ place + suc n)
       split m h = grind arith
 
-      by : (test : Bool) → is_token (token (part s place (place + suc n))) ≡ test → (reach place n ≤ place + n) × NoneUpTo place (reach place n) (place + n) → (cond test (place + suc n) (reach place n) ≤ place + suc n) × NoneUpTo place (cond test (place + suc n) (reach place n)) (place + suc n)
+      by : (test : Bool) →
+          is_token (token (part s place (place + suc n))) ≡ test →
+          Reaches place (place + n) (reach place n) →
+          Reaches place (place + suc n) (cond test (place + suc n) (reach place n))
       by true e r = (omega arith, λ m low high. absurd (omega arith))
       by false e r = (
         omega (arith, r.0),
-        λ m low high. ⊎_elim (λ (h : m ≤ place + n). r.1 m low h) (λ (h : m ≡ place + suc n). subst (λ k. token (part s place k) ≡ none) (sym h) (no_token (token (part s place (place + suc n))) e)) (split m high),
+        λ m low high. ⊎_elim
+            (λ (h : m ≤ place + n). r.1 m low h)
+            (λ (h : m ≡ place + suc n). subst (λ k. token (part s place k) ≡ none) (sym h) (no_token _ e))
+            (split m high),
       )
 
   -- ── tokens ──
@@ -88,10 +102,14 @@ module _ (s : List ℕ) where
   abbrev Cut : Type 0
   Cut = List Token × ℕ
 
+  -- some bytes, and a token in range that is not the end
+  abbrev goes_on : ℕ → ℕ → Token → Bool
+  goes_on place stop t = nat_lt place stop && (fit t && not (is_end t))
+
   -- the token behind those, if it is one in range
   abbrev behind : List Token → ℕ → ℕ → ℕ → Option Token → (Cut → Cut) → Cut
   behind ts to place stop none more = (ts, to)
-  behind ts to place stop (some t) more = cond (nat_lt place stop && (fit t && not (is_end t))) (more (ts ++ t ∷ [], stop)) (ts, to)
+  behind ts to place stop (some t) more = cond (goes_on place stop t) (more (ts ++ t ∷ [], stop)) (ts, to)
 
   abbrev place_of : ℕ → ℕ
   place_of to = skip (length s) to
@@ -111,27 +129,43 @@ module _ (s : List ℕ) where
   not_true true h = absurd (true≢false (sym h))
   not_true false h = refl
 
+  -- the token that was found is the next one
+  found : (ts : List Token) (to : ℕ) (t : Token) → IsFront (ts, to) →
+      token (part s (place_of to) (stop_of to)) ≡ some t →
+      goes_on (place_of to) (stop_of to) t ≡ true →
+      IsFront (ts ++ t ∷ [], stop_of to)
+  found ts to t f e h =
+      let place = place_of to in
+      let stop = stop_of to in
+      let h₁ = both (nat_lt place stop) (fit t && not (is_end t)) h in
+      let h₂ = both (fit t) (not (is_end t)) h₁.1 in
+      let lt : place < stop = grind (arith, nat_tests) in
+      let blanks = skips to (length s) to (omega arith, f.1, λ i low high. absurd (omega arith)) in
+      let far = reaches place (length s - place) in
+      let whole : place + (length s - place) ≡ length s = omega (arith, blanks.1) in
+      let inside : stop ≤ length s = omega (arith, far.0, whole) in
+      let none_beyond : NoneBeyond s place stop = λ m low high. far.1 m low (omega (arith, whole, high)) in
+      let longest : Longest s place stop t =
+      record { some_bytes = lt; inside = inside; spells = e; longest = none_beyond } in
+      (and_next f.0 (blanks, inr longest) h₂.0 (not_true (is_end t) h₂.1), inside)
+
   cuts : (n : ℕ) (c : Cut) → IsFront c → IsFront (cut n c)
   cuts zero c f = f
   cuts (suc n) c f = by (token (part s (place_of c.1) (stop_of c.1))) refl (cuts n)
     where
-      by : (o : Option Token) → token (part s (place_of c.1) (stop_of c.1)) ≡ o → ((c' : Cut) → IsFront c' → IsFront (cut n c')) → IsFront (behind c.0 c.1 (place_of c.1) (stop_of c.1) o (cut n))
+      by : (o : Option Token) →
+          token (part s (place_of c.1) (stop_of c.1)) ≡ o →
+          ((c' : Cut) → IsFront c' → IsFront (cut n c')) →
+          IsFront (behind c.0 c.1 (place_of c.1) (stop_of c.1) o (cut n))
       by none e more = f
-      by (some t) e more = test (nat_lt (place_of c.1) (stop_of c.1) && (fit t && not (is_end t))) refl
+      by (some t) e more = test (goes_on (place_of c.1) (stop_of c.1) t) refl
         where
-          test : (b : Bool) → (nat_lt (place_of c.1) (stop_of c.1) && (fit t && not (is_end t))) ≡ b → IsFront (cond b (cut n (c.0 ++ t ∷ [], stop_of c.1)) c)
+          next : Cut
+          next = (c.0 ++ t ∷ [], stop_of c.1)
+
+          test : (b : Bool) → goes_on (place_of c.1) (stop_of c.1) t ≡ b → IsFront (cond b (cut n next) c)
           test false h = f
-          test true h =
-              let h₁ = both (nat_lt (place_of c.1) (stop_of c.1)) (fit t && not (is_end t)) h in
-              let h₂ = both (fit t) (not (is_end t)) h₁.1 in
-              let lt : place_of c.1 < stop_of c.1 = grind (arith, nat_tests) in
-              let blanks = skips c.1 (length s) c.1 (omega arith, f.1, λ i low high. absurd (omega arith)) in
-              let far = reaches (place_of c.1) (length s - place_of c.1) in
-              let whole : place_of c.1 + (length s - place_of c.1) ≡ length s = omega (arith, blanks.1) in
-              let inside : stop_of c.1 ≤ length s = omega (arith, far.0, whole) in
-              let none_beyond : NoneBeyond s (place_of c.1) (stop_of c.1) = λ m low high. far.1 m low (omega (arith, whole, high)) in
-              let next : Next s c.1 t (place_of c.1) (stop_of c.1) = (blanks, inr (record { some_bytes = lt; inside = inside; spells = e; longest = none_beyond })) in
-              more (c.0 ++ t ∷ [], stop_of c.1) (and_next f.0 next h₂.0 (not_true (is_end t) h₂.1), inside)
+          test true h = more next (found c.0 c.1 t f e h)
 
 -- all tokens of a text, 64 at most, and where the last one stops
 abbrev pub tokens_of : List ℕ → List Token × ℕ
@@ -150,7 +184,8 @@ module _ (names : List Name) (s : List ℕ) (e : Expr) (t : Tree) where
       let front = cuts s 64 ([], 0) (none_yet, omega arith) in
       let to = (tokens_of s).1 in
       let sentence = accepted_sentence names ((tokens_of s).0 ++ end ∷ []) e reads in
-      let blanks : Blanks s to (length s) = subst (Blanks s to) behind_last (skips s to (length s) to (omega arith, front.1, λ i low high. absurd (omega arith))) in
+      let no_blanks : Blanks s to to = (omega arith, front.1, λ i low high. absurd (omega arith)) in
+      let blanks : Blanks s to (length s) = subst (Blanks s to) behind_last (skips s to (length s) to no_blanks) in
       record {
         tokens = (tokens_of s).0;
         to = to;

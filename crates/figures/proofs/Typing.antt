@@ -1,4 +1,4 @@
--- The type answers of the figures, and why two rules have none. Assumes nothing.
+-- The type answers of the figures, and why two rules have none.
 use Rattle.std.proofs.Common.{◌≡◌, ℕ, zero, suc, ◌<◌, ◌≤◌, List, length, true, nat_le, refl, inr, arith}
 use Rattle.std.proofs.lemmas.Bool.Decides.{nat_tests}
 use Rattle.syntax.specs.Tree.{Tree, sum, nodes}
@@ -25,15 +25,24 @@ heating_general = int_general 1 heating ((refl, refl, refl), refl, refl) (λ σ 
 
 pub thrice_general : MostGeneral 0 thrice int
 thrice_general =
-    int_general 0 thrice
-    (int, (int ⇒ int, (int ⇒ int, int ⇒ int, refl, (int, int, refl, (refl, refl, (int, refl, refl)))), (int, int, refl, (refl, refl, refl))), refl)
+    int_general 0 thrice (
+      int,
+      (
+        int ⇒ int,
+        (int ⇒ int, int ⇒ int, refl, (int, int, refl, (refl, refl, (int, refl, refl)))),
+        (int, int, refl, (refl, refl, refl)),
+      ),
+      refl,
+    )
     every
   where
     every : (σ : Ty) → RuleHas 0 thrice σ → int ≡ σ
     every σ (p, (q, (a, b, e, (c, d, f, (g, h, k))), i), j) = cc
 
 pub leaving_general : MostGeneral 0 (sum (leaving 1) (leaving 2)) int
-leaving_general = int_general 0 (sum (leaving 1) (leaving 2)) (refl, (refl, refl, refl), (refl, refl, refl)) (λ σ h. let e = h.0 in cc)
+leaving_general =
+    int_general 0 (sum (leaving 1) (leaving 2)) (refl, (refl, refl, refl), (refl, refl, refl)) (λ σ h. let e = h.0 in
+    cc)
 
 pub nested_general : MostGeneral 1 kept_twice int
 nested_general = int_general 1 kept_twice (int, refl, (int, refl, refl)) every
@@ -43,17 +52,20 @@ nested_general = int_general 1 kept_twice (int, refl, (int, refl, refl)) every
 
 -- ── no types ──
 
+-- what meets the conditions up to a node meets those up to an earlier one
+itself_earlier : (k : ℕ) → k < 3 → (a : Assignment) → Meets 0 itself 2 a → Meets 0 itself k a
+itself_earlier k lt a (m₀, (m₁, m₂, m₃)) =
+    ((λ h. m₀ (omega arith)), ((λ h. m₁ (omega arith)), (λ h. m₂ (omega arith)), (λ h. m₃ (omega arith))))
+
 pub itself_unmet : FirstUnmet 0 itself 3
 itself_unmet =
+    let met = figures.itself_met_to_2 in
     record {
       untyped = figures.itself_type;
       within = omega arith;
       cannot = figures.itself_refused_at_3;
-      earlier = λ k lt no. no figures.itself_met_to_2.0 (up_to k lt figures.itself_met_to_2.0 figures.itself_met_to_2.1);
+      earlier = λ k lt no. no met.0 (itself_earlier k lt met.0 met.1);
     }
-  where
-    up_to : (k : ℕ) → k < 3 → (a : Assignment) → Meets 0 itself 2 a → Meets 0 itself k a
-    up_to k lt a (m₀, (m₁, m₂, m₃)) = ((λ h. m₀ (omega arith)), ((λ h. m₁ (omega arith)), (λ h. m₂ (omega arith)), (λ h. m₃ (omega arith))))
 
 -- for 1 true: the number is int → int, of a truth and the whole int
 no_function_types : ℕ → Ty
@@ -63,7 +75,14 @@ no_function_types (suc (suc n)) = int
 
 pub no_function_met : (a : Assignment) × Meets 0 no_function 0 a
 unfolding no_function_types
-no_function_met = (record { type_of = no_function_types; parameter_of = λ n. int }, ((λ h. refl), (λ h. absurd (omega arith)), (λ h. absurd (omega arith))))
+no_function_met = (
+  record { type_of = no_function_types; parameter_of = λ n. int },
+  ((λ h. refl), (λ h. absurd (omega arith)), (λ h. absurd (omega arith))),
+)
+
+no_function_earlier : (k : ℕ) → k < 1 → (a : Assignment) → Meets 0 no_function 0 a → Meets 0 no_function k a
+no_function_earlier k lt a (m₀, m₁, m₂) =
+    ((λ h. m₀ (omega arith)), (λ h. m₁ (omega arith)), (λ h. m₂ (omega arith)))
 
 pub no_function_unmet : FirstUnmet 0 no_function 1
 no_function_unmet =
@@ -71,26 +90,36 @@ no_function_unmet =
       untyped = figures.no_function_type;
       within = omega arith;
       cannot = figures.no_function_refused_at_1;
-      earlier = λ k lt no. no no_function_met.0 (up_to k lt no_function_met.0 no_function_met.1);
+      earlier = λ k lt no. no no_function_met.0 (no_function_earlier k lt no_function_met.0 no_function_met.1);
     }
-  where
-    up_to : (k : ℕ) → k < 1 → (a : Assignment) → Meets 0 no_function 0 a → Meets 0 no_function k a
-    up_to k lt a (m₀, m₁, m₂) = ((λ h. m₀ (omega arith)), (λ h. m₁ (omega arith)), (λ h. m₂ (omega arith)))
 
 -- ── judgements ──
 
-module _ (names : List Name) (s : List ℕ) (t : Tree) (few_names : nat_le (length names) 8 ≡ true) (few : nat_le (nodes t) 512 ≡ true) (m : Means names s t) where
-  is_record : IsRecord (record_of (length names) t) (length names) t
-  is_record =
-      let few_names' : length names ≤ 8 = grind (arith, nat_tests) in
-      let few' : nodes t ≤ 512 = grind (arith, nat_tests) in
-      record { sendable = means_sendable names s few_names' t m few'; bytes = refl }
+module _
+    (names : List Name)
+    (s : List ℕ)
+    (t : Tree)
+    (few_names : nat_le (length names) 8 ≡ true)
+    (few : nat_le (nodes t) 512 ≡ true)
+    (m : Means names s t)
+  where
+    is_record : IsRecord (record_of (length names) t) (length names) t
+    is_record =
+        let few_names' : length names ≤ 8 = grind (arith, nat_tests) in
+        let few' : nodes t ≤ 512 = grind (arith, nat_tests) in
+        record { sendable = means_sendable names s few_names' t m few'; bytes = refl }
 
-  enough : worked t ≤ 1538
-  enough = let few' : nodes t ≤ 512 = grind (arith, nat_tests) in omega arith
+    enough : worked t ≤ 1538
+    enough = let few' : nodes t ≤ 512 = grind (arith, nat_tests) in omega arith
 
-  pub is_accepted : (μ : Ty) (w : List ℕ) → MostGeneral (length names) t μ → w ≡ spelling μ → nat_le (length w) 65536 ≡ true → Accepted (length names) t w
-  is_accepted μ w g e fits = let fits' : length w ≤ 65536 = grind (arith, nat_tests) in (is_record, enough, enough, (μ, g, e), fits')
+    pub is_accepted : (μ : Ty) (w : List ℕ) →
+        MostGeneral (length names) t μ →
+        w ≡ spelling μ →
+        nat_le (length w) 65536 ≡ true →
+        Accepted (length names) t w
+    is_accepted μ w g e fits =
+        let fits' : length w ≤ 65536 = grind (arith, nat_tests) in
+        (is_record, enough, enough, (μ, g, e), fits')
 
-  pub is_refused : (j : ℕ) → FirstUnmet (length names) t j → Refused (length names) t 11 j
-  is_refused j u = inr (length names, t, is_record, no_type enough enough u)
+    pub is_refused : (j : ℕ) → FirstUnmet (length names) t j → Refused (length names) t 11 j
+    is_refused j u = inr (length names, t, is_record, no_type enough enough u)

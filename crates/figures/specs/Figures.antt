@@ -1,4 +1,4 @@
--- What some texts come to: their trees, their records, their types and their runs. Assumes nothing.
+-- What some texts come to: their trees, their records, their types and their runs.
 use Rattle.std.specs.Prelude.{◌≡◌, ℕ, List, [], ◌∷◌, length, codes, pos, negsuc, Err}
 use Rattle.syntax.specs.Tree.{Tree, number, sum}
 use Rattle.syntax.specs.Record.{record_of}

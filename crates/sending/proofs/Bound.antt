@@ -1,4 +1,4 @@
--- A tree whose names are in force and whose numbers are in range has all its variables bound. Assumes nothing.
+-- A tree whose names are in force and whose numbers are in range has all its variables bound.
 use Rattle.std.proofs.Common.{◌≡◌, ℕ, ◌+◌, ◌<◌, Bool, true, false, cond, List, [], ◌∷◌, length, subst, arith}
 use mathlib.Core.Option.{Option, some, none}
 use Rattle.syntax.specs.Tree.{Tree}
@@ -25,7 +25,9 @@ distance_below (y ∷ names) x = by (same x y) (distance_below names x)
     long : length names + 1 ≡ length (y ∷ names)
     long = omega arith
 
-    by : (b : Bool) → Below (length names) (distance names x) → Below (length (y ∷ names)) (cond b (some 0) (next (distance names x)))
+    by : (b : Bool) →
+        Below (length names) (distance names x) →
+        Below (length (y ∷ names)) (cond b (some 0) (next (distance names x)))
     by true h = omega arith
     by false h = subst (λ n. Below n (next (distance names x))) long (next_below (length names) (distance names x) h)
 
@@ -42,37 +44,63 @@ function_proper : (b : ℕ) (o : Option Tree) → IfProper (b + 1) o → IfPrope
 function_proper b none h = tt
 function_proper b (some t) h = h
 
-module _ (b c : ℕ) (make : Tree → Tree → Tree) (made : (t u : Tree) → Proper b t → Proper c u → Proper b (make t u)) where
-  two_proper : (o p : Option Tree) → IfProper b o → IfProper c p → IfProper b (two make o p)
-  two_proper none p h k = tt
-  two_proper (some t) none h k = tt
-  two_proper (some t) (some u) h k = made t u h k
+module _
+    (b c : ℕ)
+    (make : Tree → Tree → Tree)
+    (made : (t u : Tree) → Proper b t → Proper c u → Proper b (make t u))
+  where
+    two_proper : (o p : Option Tree) → IfProper b o → IfProper c p → IfProper b (two make o p)
+    two_proper none p h k = tt
+    two_proper (some t) none h k = tt
+    two_proper (some t) (some u) h k = made t u h k
 
-if_proper : (b : ℕ) (o p q : Option Tree) → IfProper b o → IfProper b p → IfProper b q → IfProper b (three Tree.if_else o p q)
+if_proper : (b : ℕ) (o p q : Option Tree) →
+    IfProper b o →
+    IfProper b p →
+    IfProper b q →
+    IfProper b (three Tree.if_else o p q)
 if_proper b none p q h k l = tt
 if_proper b (some t) none q h k l = tt
 if_proper b (some t) (some u) none h k l = tt
 if_proper b (some t) (some u) (some v) h k l = (h, k, l)
+
+-- a name that is opened is one variable more
+opened : (names : List Name) (x : Name) (o : Option Tree) → IfProper (length (x ∷ names)) o
+    → IfProper (length names + 1) o
+opened names x o h = let long : length (x ∷ names) ≡ length names + 1 = omega arith in subst (λ n. IfProper n o) long h
 
 pub resolved_proper : (names : List Name) (e : Expr) → InRange e → IfProper (length names) (resolved names e)
 resolved_proper names (literal k) h = text_fits k h
 resolved_proper names (boolean b) h = tt
 resolved_proper names (used x) h = variable_proper (length names) (distance names x) (distance_below names x)
 resolved_proper names (lambda x e) h =
-    let long : length (x ∷ names) ≡ length names + 1 = omega arith in
-    function_proper (length names) (resolved (x ∷ names) e) (subst (λ n. IfProper n (resolved (x ∷ names) e)) long (resolved_proper (x ∷ names) e h))
+    let body = resolved (x ∷ names) e in
+    function_proper (length names) body (opened names x body (resolved_proper (x ∷ names) e h))
 resolved_proper names (apply e f) h =
     let b = length names in
-    two_proper b b Tree.application (λ t u p q. (p, q)) (resolved names e) (resolved names f) (resolved_proper names e h.0) (resolved_proper names f h.1)
+    let one = resolved names e in
+    let other = resolved names f in
+    two_proper b b Tree.application (λ t u p q. (p, q)) one other (resolved_proper names e h.0)
+    (resolved_proper names f h.1)
 resolved_proper names (let_in x e f) h =
     let b = length names in
-    let long : length (x ∷ names) ≡ b + 1 = omega arith in
-    two_proper b (b + 1) Tree.let_in (λ t u p q. (p, q)) (resolved names e) (resolved (x ∷ names) f) (resolved_proper names e h.0) (subst (λ n. IfProper n (resolved (x ∷ names) f)) long (resolved_proper (x ∷ names) f h.1))
+    let bound = resolved names e in
+    let body = resolved (x ∷ names) f in
+    let inner = opened names x body (resolved_proper (x ∷ names) f h.1) in
+    two_proper b (b + 1) Tree.let_in (λ t u p q. (p, q)) bound body (resolved_proper names e h.0) inner
 resolved_proper names (plus e f) h =
     let b = length names in
-    two_proper b b Tree.sum (λ t u p q. (p, q)) (resolved names e) (resolved names f) (resolved_proper names e h.0) (resolved_proper names f h.1)
+    let one = resolved names e in
+    let other = resolved names f in
+    two_proper b b Tree.sum (λ t u p q. (p, q)) one other (resolved_proper names e h.0) (resolved_proper names f h.1)
 resolved_proper names (at_most e f) h =
     let b = length names in
-    two_proper b b Tree.at_most (λ t u p q. (p, q)) (resolved names e) (resolved names f) (resolved_proper names e h.0) (resolved_proper names f h.1)
+    let one = resolved names e in
+    let other = resolved names f in
+    two_proper b b Tree.at_most (λ t u p q. (p, q)) one other (resolved_proper names e h.0)
+    (resolved_proper names f h.1)
 resolved_proper names (if_else e f g) h =
-    if_proper (length names) (resolved names e) (resolved names f) (resolved names g) (resolved_proper names e h.0) (resolved_proper names f h.1) (resolved_proper names g h.2)
+    let whether = resolved_proper names e h.0 in
+    let one = resolved_proper names f h.1 in
+    let other = resolved_proper names g h.2 in
+    if_proper (length names) (resolved names e) (resolved names f) (resolved names g) whether one other

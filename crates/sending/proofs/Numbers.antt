@@ -1,8 +1,11 @@
--- Where all tokens are in range, so are all numbers of what they derive. Assumes nothing.
+-- Where all tokens are in range, so are all numbers of what they derive.
 use Rattle.std.proofs.Common.{◌≡◌, ℕ, true, List, [], ◌∷◌, ◌++◌}
 use Rattle.grammar.specs.Token.{Token}
 use Rattle.grammar.specs.Spelling.{in_range, fit}
-use Rattle.grammar.specs.Grammar.{Expr, Class, Derives, literal, boolean, used, lambda, apply, let_in, plus, at_most, if_else, fun_arrow, let_equals_in, if_then_else, only_cmp, only_sum, sum_at_most, only_app, sum_plus, only_atom, app_atom, a_number, a_true, a_false, a_name, in_parentheses}
+use Rattle.grammar.specs.Grammar.{Expr, Class, Derives, literal, boolean, used, lambda, apply, let_in, plus, at_most}
+use Rattle.grammar.specs.Grammar.{if_else, fun_arrow, let_equals_in, if_then_else, only_cmp, only_sum, sum_at_most}
+use Rattle.grammar.specs.Grammar.{only_app, sum_plus, only_atom, app_atom, a_number, a_true, a_false, a_name}
+use Rattle.grammar.specs.Grammar.{in_parentheses}
 use Rattle.grammar.specs.Verdict.{Front, none_yet, and_next}
 
 abbrev pub AllFit : List Token → Type 0
@@ -39,13 +42,19 @@ front_fits s (and_next {ts} {t = t} f n e o) = all_behind ts t (front_fits s f) 
 
 pub derives_in_range : {c : Class} {ts : List Token} {e : Expr} → Derives c ts e → AllFit ts → InRange e
 derives_in_range (fun_arrow d) h = derives_in_range d h.1.1.1
-derives_in_range (let_equals_in {a = a} {b = b} d d') h = (derives_in_range d (all_first a _ h.1.1.1), derives_in_range d' (all_last a _ h.1.1.1).1)
+derives_in_range (let_equals_in {a = a} {b = b} d d') h =
+    let rest = h.1.1.1 in
+    (derives_in_range d (all_first a _ rest), derives_in_range d' (all_last a _ rest).1)
 derives_in_range (if_then_else {a} {b} {c} d d' d'') h =
-    let rest = (all_last a _ h.1).1 in
-    (derives_in_range d (all_first a _ h.1), derives_in_range d' (all_first b _ rest), derives_in_range d'' (all_last b _ rest).1)
+    let rest = (all_last a _ h.1).1 in (
+      derives_in_range d (all_first a _ h.1),
+      derives_in_range d' (all_first b _ rest),
+      derives_in_range d'' (all_last b _ rest).1,
+    )
 derives_in_range (only_cmp d) h = derives_in_range d h
 derives_in_range (only_sum d) h = derives_in_range d h
-derives_in_range (sum_at_most {a} d d') h = (derives_in_range d (all_first a _ h), derives_in_range d' (all_last a _ h).1)
+derives_in_range (sum_at_most {a} d d') h =
+    (derives_in_range d (all_first a _ h), derives_in_range d' (all_last a _ h).1)
 derives_in_range (only_app d) h = derives_in_range d h
 derives_in_range (sum_plus {a} d d') h = (derives_in_range d (all_first a _ h), derives_in_range d' (all_last a _ h).1)
 derives_in_range (only_atom d) h = derives_in_range d h

@@ -1,4 +1,4 @@
--- The three number ranges are one. Assumes nothing.
+-- The three number ranges are one.
 use Rattle.std.proofs.Common.{◌≡◌, ◌<◌, true, ℤ, pos, negsuc, FitsSigned, w32, ◌∙◌, sym, arith}
 use Rattle.std.proofs.lemmas.Bool.Decides.{nat_tests}
 use Rattle.grammar.specs.Spelling as text

@@ -1,5 +1,5 @@
 -- The number range is said three times: of the numbers in a text, of those in a record, and of those in a stage. It is
--- one range. Assumes nothing.
+-- one range.
 use Rattle.std.specs.Prelude.{◌≡◌, ◌↔◌, true, ℤ, FitsSigned}
 use Rattle.std.specs.Int.{w32}
 use Rattle.grammar.specs.Spelling as text

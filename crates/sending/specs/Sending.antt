@@ -1,4 +1,4 @@
--- What compile writes, accepting reads. Assumes nothing.
+-- What compile writes, accepting reads.
 use Rattle.std.specs.Prelude.{◌≡◌, ℕ, ◌≤◌, List, length, Ok, Result}
 use Rattle.syntax.specs.Tree.{Tree}
 use Rattle.syntax.specs.Record.{record_of}
