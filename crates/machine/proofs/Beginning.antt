@@ -11,19 +11,18 @@ use Rattle.reckoning.specs.Room.{Room}
 use Rattle.reckoning.specs.Reckoning.{begun}
 use Rattle.reckoning.proofs.Reckoning.{follows_stages}
 use Rattle.machine.specs.declared.operations.Operations.{Operations}
-use Rattle.machine.specs.declared.steps.Machine.{Machine}
+use Rattle.machine.specs.declared.next.Next.TheVariants as next
 use Rattle.machine.specs.Places.{At}
-use Rattle.machine.specs.Opens.{Stacked, weighed}
+use Rattle.machine.specs.Opens.{Stacked}
 use Rattle.machine.specs.Standing.{Meets}
 use Rattle.machine.specs.Reducing.{room_of}
-use Rattle.machine.specs.Running.{Rests, StandsAt, NeverStuck, Begins, rooted}
+use Rattle.machine.specs.Running.{OnTheWay, NeverStuck, Begins, rooted}
 
 module _ (ns : List Node) (lists : Lists Value) (whole left h : ℕ) (t : Tree) (readings : List ℤ) (b : Begins ns lists whole left h t readings) where
-  pub begins_met : (table : Operations) → table.depth ≡ 0 → Meets ns lists table 0 h (begun readings t).work (nodes t)
+  begins_met : (table : Operations) → table.depth ≡ 0 → Meets ns lists table 0 h (begun readings t).work
   begins_met table e =
       let inside = b.inside in
       let at : At ns 0 (numbered 0 t) = record { tree = t; holds = b.holds; inside = omega arith; is = refl } in
-      let none : weighed ns table.ops table.depth ≡ 0 = ap (λ d. weighed ns table.ops d) e in
       record {
         opens = [];
         term = numbered 0 t;
@@ -32,18 +31,15 @@ module _ (ns : List Node) (lists : Lists Value) (whole left h : ℕ) (t : Tree) 
         at = at;
         environment = b.environment;
         whole = refl;
-        left = omega arith;
       }
 
-  pub begins_stands : (cost : ℕ → ℕ) (run : Machine) → run.count ≡ 0 → Rests ns lists run (begun readings t).work →
-      StandsAt ns lists (room_of whole cost) left (rooted h readings) run (begun readings t)
-  begins_stands cost run c r =
+  pub begins_on_the_way : (cost : ℕ → ℕ) (table : Operations) → table.depth ≡ 0 → OnTheWay ns lists (room_of whole cost) left (rooted h readings) table (next.Node 0 h) (begun readings t)
+  begins_on_the_way cost table e =
       record {
-        in_state = r.in_state;
-        counted = c;
         left_free = let e = b.unspent in omega arith;
         lists_made = record { handles = []; at_root = b.environment; own = tt; no_other = λ k n a. b.alone k n };
-        ready = r.ready;
+        not_refused = refl;
+        follows = begins_met table e;
       }
 
 -- a rule that has a type is never stuck

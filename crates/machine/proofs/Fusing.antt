@@ -1,5 +1,5 @@
 -- Operands that are worked out at once. Assumes nothing.
-use Rattle.std.proofs.Common.{◌≡◌, ◌≢◌, ℕ, ◌+◌, ◌<◌, ◌≤◌, ◌⊎◌, inl, inr, List, ◌∷◌, length, Ok, Err, Some, get_or, refl, sym, ap, ◌∙◌, subst, arith}
+use Rattle.std.proofs.Common.{◌≡◌, ◌≢◌, ℕ, ℤ, Bool, ◌+◌, ◌<◌, ◌≤◌, ◌⊎◌, inl, inr, List, ◌∷◌, length, Ok, Err, Some, get_or, refl, sym, ap, ◌∙◌, subst, arith}
 use Rattle.std.proofs.lemmas.Bool.{cases_lt}
 use Rattle.syntax.specs.declared.node.Node.{Node}
 use Rattle.syntax.specs.declared.node.Node.TheVariants as node
@@ -14,16 +14,36 @@ use Rattle.reckoning.specs.Environments.{Env}
 use Rattle.reckoning.specs.Environments as plain
 use Rattle.reckoning.specs.Work.{Work, unbound, found, met}
 use Rattle.reckoning.specs.Moves.{move, stuck}
-use Rattle.reckoning.specs.Contexts.{Open, argument, applied, sum_right, sum_left, compare_right, compare_left, inside, plugged}
-use Rattle.machine.specs.declared.operation.Operation.TheVariants.{Applied, SumLeft, CompareLeft}
+use Rattle.reckoning.specs.Contexts.{Open, plugged}
 use Rattle.machine.specs.declared.operations.Operations.{Operations}
 use Rattle.machine.specs.Places.{At, BodyOf}
 use Rattle.machine.specs.Handles.{StandsFor, AllStandFor, IsListOf}
-use Rattle.machine.specs.Opens.{Topped}
+use Rattle.machine.specs.Opens.{IsOperation}
 use Rattle.machine.specs.Leaves.{AtOnce, GoesOn}
 use Rattle.machine.specs.Standing.{Meets}
 use Rattle.machine.proofs.Placing.{shape, at_inside}
-use Rattle.machine.proofs.Entering.{listed, unlisted, ok_ok, stuck_inside, goes_down}
+use Rattle.machine.proofs.Entering.{listed, unlisted, ok_ok, stuck_inside}
+
+-- a node of none of the kinds of leaves
+pub is_operation : (n : Node) → ((k : ℤ) → n ≡ node.Number k → ⊥) → ((b : Bool) → n ≡ node.Truth b → ⊥) → ((d : ℕ) → n ≡ node.Variable d → ⊥) →
+    ((b : ℕ) → n ≡ node.Function b → ⊥) → IsOperation n
+is_operation (node.Number k) not_number not_truth not_variable not_function = absurd (not_number k refl)
+is_operation (node.Truth b) not_number not_truth not_variable not_function = absurd (not_truth b refl)
+is_operation (node.Variable d) not_number not_truth not_variable not_function = absurd (not_variable d refl)
+is_operation (node.Function b) not_number not_truth not_variable not_function = absurd (not_function b refl)
+is_operation (node.Application f a) not_number not_truth not_variable not_function = tt
+is_operation (node.LetIn e b) not_number not_truth not_variable not_function = tt
+is_operation (node.Sum l r) not_number not_truth not_variable not_function = tt
+is_operation (node.AtMost l r) not_number not_truth not_variable not_function = tt
+is_operation (node.IfElse c t e) not_number not_truth not_variable not_function = tt
+
+-- a leaf is no operation
+pub no_operation : (n : Node) → ((k : ℤ) × (n ≡ node.Number k)) ⊎ (((b : Bool) × (n ≡ node.Truth b)) ⊎ (((d : ℕ) × (n ≡ node.Variable d)) ⊎ ((b : ℕ) × (n ≡ node.Function b)))) →
+    IsOperation n → ⊥
+no_operation n (inl e) o = subst IsOperation e.1 o
+no_operation n (inr (inl e)) o = subst IsOperation e.1 o
+no_operation n (inr (inr (inl e))) o = subst IsOperation e.1 o
+no_operation n (inr (inr (inr e))) o = subst IsOperation e.1 o
 
 module _ (ns : List Node) (lists : Lists Value) (p h : ℕ) (t : Term) (env : Env) (a : At ns p t) (i : IsListOf ns lists h env) where
   pub number_at_once : (x : _) → node.Number x ≡ node_at ns p → AtOnce ns lists t env (Some (Number x))
@@ -67,76 +87,14 @@ module _ (ns : List Node) (lists : Lists Value) where
       let is = shape ns p g.term (node.Variable d) g.at e in
       g.goes_on (unfound d f g.term g.env g.opens i.0 is i.2 (looked.listed i.0 i.1) (cases_lt d (length i.0)))
 
-  module _ (table : Operations) (p h : ℕ) (w : Work) (k : ℕ) (m : Meets ns lists table p h w k) where
-    operand_goes_on : (q : ℕ) (o : Open) (t : Term) → At ns q t → met m.term m.env ≡ inside o (met t m.env) →
-        (move w ≢ stuck) → GoesOn ns lists q h
-    operand_goes_on q o t a e not =
-        record {
-          opens = o ∷ m.opens;
-          term = t;
-          env = m.env;
-          at = a;
-          environment = m.environment;
-          goes_on = λ s. not (ap (λ y. move y) (sym m.whole ∙ ap (λ y. plugged m.opens y) e) ∙ s);
-        }
-
-    pub met_goes_on : (move w ≢ stuck) → GoesOn ns lists p h
-    met_goes_on not =
-        record {
-          opens = m.opens;
-          term = m.term;
-          env = m.env;
-          at = m.at;
-          environment = m.environment;
-          goes_on = λ s. not (ap (λ y. move y) (sym m.whole) ∙ s);
-        }
-
-    pub argument_goes_on : (l r : ℕ) → node.Application l r ≡ node_at ns p → (move w ≢ stuck) → GoesOn ns lists r h
-    argument_goes_on l r e not =
-        let s = shape ns p m.term (node.Application l r) m.at e in
-        operand_goes_on r (argument p s.0 m.env) s.1 s.3.right (ap (λ t. met t m.env) s.2) not
-
-    pub sum_goes_on : (l r : ℕ) → node.Sum l r ≡ node_at ns p → (move w ≢ stuck) → GoesOn ns lists r h
-    sum_goes_on l r e not =
-        let s = shape ns p m.term (node.Sum l r) m.at e in
-        operand_goes_on r (sum_right p s.0 m.env) s.1 s.3.right (ap (λ t. met t m.env) s.2) not
-
-    pub comparison_goes_on : (l r : ℕ) → node.AtMost l r ≡ node_at ns p → (move w ≢ stuck) → GoesOn ns lists r h
-    comparison_goes_on l r e not =
-        let s = shape ns p m.term (node.AtMost l r) m.at e in
-        operand_goes_on r (compare_right p s.0 m.env) s.1 s.3.right (ap (λ t. met t m.env) s.2) not
-
-  -- the right operand is found at once: the left one is next
-
-  pub applied_next : (table table' : Operations) (p h : ℕ) (w : Work) (k l r : ℕ) (x : Value) → node.Application l r ≡ node_at ns p →
-      ((t : Term) (env : Env) → At ns r t → IsListOf ns lists h env → AtOnce ns lists t env (Some x)) →
-      Topped table.ops table'.ops table.depth (Applied p x) → table'.depth ≡ table.depth + 1 → Meets ns lists table p h w k → Meets ns lists table' l h w k
-  applied_next table table' p h w k l r x e at_once topped deep m =
-      let s = shape ns p m.term (node.Application l r) m.at e in
-      let b = s.3 in
-      let fewer = b.fewer in
-      let v = at_once s.1 m.env b.right m.environment in
-      goes_down ns lists table table' p h l w k (Applied p x) (applied p v.0) s.0 m b.left (v.0, refl, v.2)
-      (ap (λ y. met y m.env) s.2 ∙ ap (λ q. Work.application p (met s.0 m.env) q) v.1) (omega arith) topped deep
-
-  pub sum_next : (table table' : Operations) (p h : ℕ) (w : Work) (k l r : ℕ) (x : Value) → node.Sum l r ≡ node_at ns p →
-      ((t : Term) (env : Env) → At ns r t → IsListOf ns lists h env → AtOnce ns lists t env (Some x)) →
-      Topped table.ops table'.ops table.depth (SumLeft p x) → table'.depth ≡ table.depth + 1 → Meets ns lists table p h w k → Meets ns lists table' l h w k
-  sum_next table table' p h w k l r x e at_once topped deep m =
-      let s = shape ns p m.term (node.Sum l r) m.at e in
-      let b = s.3 in
-      let fewer = b.fewer in
-      let v = at_once s.1 m.env b.right m.environment in
-      goes_down ns lists table table' p h l w k (SumLeft p x) (sum_left p v.0) s.0 m b.left (v.0, refl, v.2)
-      (ap (λ y. met y m.env) s.2 ∙ ap (λ q. Work.sum p (met s.0 m.env) q) v.1) (omega arith) topped deep
-
-  pub comparison_next : (table table' : Operations) (p h : ℕ) (w : Work) (k l r : ℕ) (x : Value) → node.AtMost l r ≡ node_at ns p →
-      ((t : Term) (env : Env) → At ns r t → IsListOf ns lists h env → AtOnce ns lists t env (Some x)) →
-      Topped table.ops table'.ops table.depth (CompareLeft p x) → table'.depth ≡ table.depth + 1 → Meets ns lists table p h w k → Meets ns lists table' l h w k
-  comparison_next table table' p h w k l r x e at_once topped deep m =
-      let s = shape ns p m.term (node.AtMost l r) m.at e in
-      let b = s.3 in
-      let fewer = b.fewer in
-      let v = at_once s.1 m.env b.right m.environment in
-      goes_down ns lists table table' p h l w k (CompareLeft p x) (compare_left p v.0) s.0 m b.left (v.0, refl, v.2)
-      (ap (λ y. met y m.env) s.2 ∙ ap (λ q. Work.at_most p (met s.0 m.env) q) v.1) (omega arith) topped deep
+  -- a node that is met within a work that goes on
+  pub met_goes_on : (table : Operations) (p h : ℕ) (w : Work) → Meets ns lists table p h w → (move w ≢ stuck) → GoesOn ns lists p h
+  met_goes_on table p h w m not =
+      record {
+        opens = m.opens;
+        term = m.term;
+        env = m.env;
+        at = m.at;
+        environment = m.environment;
+        goes_on = λ s. not (ap (λ y. move y) (sym m.whole) ∙ s);
+      }

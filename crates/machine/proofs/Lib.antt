@@ -11,3 +11,4 @@ pub mod Granting
 pub mod Beginning
 mod Fusing
 mod Going
+mod Extents

@@ -16,6 +16,18 @@ use Rattle.machine.specs.declared.operation.Operation.TheVariants.{Argument, App
 use Rattle.machine.specs.Places.{At}
 use Rattle.machine.specs.Handles.{StandsFor, IsListOf}
 
+-- a node that is no leaf
+abbrev pub IsOperation : Node → Type 0
+IsOperation (node.Number k) = ⊥
+IsOperation (node.Truth b) = ⊥
+IsOperation (node.Variable d) = ⊥
+IsOperation (node.Function b) = ⊥
+IsOperation (node.Application f a) = Unit {0}
+IsOperation (node.LetIn e b) = Unit {0}
+IsOperation (node.Sum l r) = Unit {0}
+IsOperation (node.AtMost l r) = Unit {0}
+IsOperation (node.IfElse c t e) = Unit {0}
+
 -- how many nodes the left operand of a node has, by the places of its operands
 abbrev pub span : Node → ℕ
 span (node.Number k) = 0

@@ -23,9 +23,7 @@ use Rattle.machine.specs.declared.steps.State.{State}
 use Rattle.machine.specs.declared.steps.State.TheVariants.{Waiting, Done, Range, NoStore, NoStack}
 use Rattle.machine.specs.Handles.{IsListOf, Root, Owned}
 use Rattle.machine.specs.declared.operations.Operations.{Operations}
-use Rattle.machine.specs.declared.settle.Next.{Next}
-use Rattle.machine.specs.declared.steps.Gone.{Gone}
-use Rattle.machine.specs.declared.steps.Gone.TheVariants.{On, Ended}
+use Rattle.machine.specs.declared.next.Next.{Next}
 use Rattle.machine.specs.Standing.{Readied, Follows}
 
 abbrev pub answer_of : Value → Answer
@@ -53,11 +51,6 @@ sum_ahead n (value.Number j) (value.Function m h) = Waiting
 sum_ahead n (value.Truth b) x = Waiting
 sum_ahead n (value.Function m h) x = Waiting
 
--- The whole work w is told of as far as it was not refused room, and while it waits, its next reduction is known.
-pub record Rests (ns : List Node) (lists : Lists Value) (run : Machine) (w : Work) : Type 0 where
-  pub in_state : state_of run.state ≡ shortage none (one_too_many w) (ahead w (move w))
-  pub ready : run.state ≡ Waiting → Readied ns lists run.table run.focus w
-
 -- The run stands where s is: any s, however it came there.
 pub record StandsAt (ns : List Node) (lists : Lists Value) (room : Room) (left : ℕ) (root : Root) (run : Machine) (s : Reckoned) : Type 0 where
   pub in_state : state_of run.state ≡ state s
@@ -69,6 +62,10 @@ pub record StandsAt (ns : List Node) (lists : Lists Value) (room : Room) (left :
 -- nothing is ever stuck, from s on
 abbrev pub NeverStuck : Room → Reckoned → Type 0
 NeverStuck room s = (n : ℕ) → move (steps room n s).work ≢ stuck
+
+-- nothing is stuck within so many granted steps
+abbrev pub NotStuckFor : Room → ℕ → Reckoned → Type 0
+NotStuckFor room k s = (n : ℕ) → n ≤ k → move (steps room n s).work ≢ stuck
 
 -- The table holds this tree, the list of the handle is these readings, no other handle has a list, and all room is free.
 pub record Begins (ns : List Node) (lists : Lists Value) (whole left : ℕ) (h : ℕ) (t : Tree) (readings : List ℤ) : Type 0 where
@@ -88,10 +85,3 @@ pub record OnTheWay (ns : List Node) (lists : Lists Value) (room : Room) (left :
   pub lists_made : Owned ns lists root s.made
   pub not_refused : s.refused ≡ none
   pub follows : Follows ns lists table next s.work
-
--- After a granted step: one reduction more, or each run that is in this state stands there, with as many reductions.
-abbrev pub Leads : List Node → Lists Value → Room → ℕ → Root → Operations → Gone → Reckoned → Type 0
-Leads ns lists room left root table (On next) s =
-    ((granted room s).count ≡ suc s.count) × OnTheWay ns lists room left root table next (granted room s)
-Leads ns lists room left root table (Ended st) s =
-    (run : Machine) → run.state ≡ st → run.count ≡ s.count → (st ≢ Waiting) × StandsAt ns lists room left root run (granted room s)

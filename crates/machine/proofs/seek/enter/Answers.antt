@@ -1,35 +1,50 @@
-use Rattle.std.proofs.Common.{rules, sym, ap, subst, ◌∙◌, SFits, w32}
-use Rattle.std.proofs.lemmas.Int.{to_z-of_z}
-use Rattle.values.specs.declared.Value.TheVariants.{Number}
-use Rattle.machine.specs.Standing.{HasFound, FewerLeft}
-use Rattle.machine.proofs.Placing.{at_inside}
-use Rattle.machine.proofs.Entering.{finds_number, finds_truth, finds_function, finds_variable}
-use Rattle.machine.proofs.Fusing.{met_goes_on, looked_up}
+use Rattle.std.proofs.Common.{sym, ◌∙◌, subst, refl, arith}
+use Rattle.machine.specs.Opens.{IsOperation}
+use Rattle.machine.proofs.Placing.{at_inside, some_nodes}
+use Rattle.machine.proofs.Entering.{found, over}
+use Rattle.machine.proofs.Extents.{at_extent}
+use Rattle.machine.proofs.Fusing.{met_goes_on, is_operation, no_operation}
 use Rattle.machine.proofs.seek.enter.Goals as goal
 
 pub node-requires : goal.node-requires
-node-requires g c = let m = c.requires.2 in at_inside c.args.nodes.now c.args.place m.term m.at
+node-requires g c = let m = c.requires.meets.1 in at_inside c.args.nodes.now c.args.place m.term m.at
 
-pub returns-in-Number-clause-enters : goal.returns-in-Number-clause-enters
-returns-in-Number-clause-enters g c w k m =
-    let fits : SFits w32 c.in-Number.number = search rules in
-    subst (λ v. HasFound c.args.nodes.now (g.W.Store.lists c.args.store.now) c.args.table.now v w × FewerLeft c.args.nodes.now c.args.table.now k) (sym (c.number_value.ensures ∙ ap Number (to_z-of_z w32 c.in-Number.number fits)))
-    (finds_number c.args.nodes.now (g.W.Store.lists c.args.store.now) c.args.table.now c.args.place c.args.environment w k c.in-Number.number c.in-Number.ensures m)
-
-pub returns-in-Truth-clause-enters : goal.returns-in-Truth-clause-enters
-returns-in-Truth-clause-enters g c w k m =
-    finds_truth c.args.nodes.now (g.W.Store.lists c.args.store.now) c.args.table.now c.args.place c.args.environment w k c.in-Truth.truth c.in-Truth.ensures m
-
-pub returns-in-Ok-clause-enters : goal.returns-in-Ok-clause-enters
-returns-in-Ok-clause-enters g c w k m =
-    finds_variable c.args.nodes.now (g.W.Store.lists c.args.store.now) c.args.table.now c.args.place c.args.environment w k c.in-Variable.distance c.in-Ok.value c.in-Variable.ensures c.in-Ok.ensures m
+pub leaf-requires : goal.leaf-requires
+leaf-requires g c =
+    let m = c.requires.meets in
+    met_goes_on c.args.nodes.now (g.W.Store.lists c.args.store.now) c.args.table.now c.args.place c.args.environment m.0 m.1 m.2
 
 pub unreachable-requires : goal.unreachable-requires
-unreachable-requires g c =
-    let m = c.requires in
-    looked_up c.args.nodes.now (g.W.Store.lists c.args.store.now) c.args.place c.args.environment c.in-Variable.distance c.in-Err.field-0 c.in-Variable.ensures c.in-Err.ensures
-    (met_goes_on c.args.nodes.now (g.W.Store.lists c.args.store.now) c.args.table.now c.args.place c.args.environment m.0 m.1 m.2 m.3)
+unreachable-requires g c = no_operation c.node.result c.in-Number.is (subst IsOperation (sym c.node.ensures) (c.in-None.ensures.operation refl))
 
-pub returns-in-Function-clause-enters : goal.returns-in-Function-clause-enters
-returns-in-Function-clause-enters g c w k m =
-    finds_function c.args.nodes.now (g.W.Store.lists c.args.store.now) c.args.table.now c.args.place c.args.environment w k c.in-Function.field-0 c.in-Function.ensures m
+pub returns-in-Some-clause-goes : goal.returns-in-Some-clause-goes
+returns-in-Some-clause-goes g c w m =
+    (λ h. refl, refl, found c.args.nodes.now (g.W.Store.lists c.args.store.now) c.args.table.now c.args.place c.args.environment w c.in-Some.value m (c.in-Some.ensures.value m.term m.env m.at m.environment))
+
+pub returns-in-Some-clause-lessens : goal.returns-in-Some-clause-lessens
+returns-in-Some-clause-lessens g c =
+    let m = c.requires.meets.1 in
+    let few = some_nodes m.at.tree in
+    let e = at_extent c.args.nodes.now c.args.place m.term m.at in
+    omega arith
+
+pub returns-in_default : goal.returns-in_default
+returns-in_default g c =
+    record {
+      goes = λ w m. (
+        λ h. refl,
+        refl,
+        over c.args.nodes.now (g.W.Store.lists c.args.store.now) c.args.table.now c.args.place c.args.environment w m c.if-table-eq-MOST_OPEN.true c.node.result c.node.ensures
+        (is_operation c.node.result c.in_default.not-Number c.in_default.not-Truth c.in_default.not-Variable c.in_default.not-Function),
+      );
+      lessens = tt;
+      still = λ e. refl;
+      base = refl;
+      whole = refl;
+      cost = refl;
+    }
+
+pub enter_operation-requires-clause-operation : goal.enter_operation-requires-clause-operation
+enter_operation-requires-clause-operation g c =
+    subst IsOperation c.node.ensures
+    (is_operation c.node.result c.in_default.not-Number c.in_default.not-Truth c.in_default.not-Variable c.in_default.not-Function)
