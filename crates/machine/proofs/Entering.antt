@@ -182,7 +182,7 @@ module _ (ns : List Node) (lists : Lists Value) where
   -- the right operand is found at once: the left one is next
 
   module _ (table : Operations) (p h : ℕ) (w : Work) (m : Meets ns lists table p h w) (l r : ℕ) (x : Value)
-    (at_once : (t : Term) (env : Env) → At ns r t → IsListOf ns lists h env → AtOnce ns lists t env (Some x)) where
+      (at_once : (t : Term) (env : Env) → At ns r t → IsListOf ns lists h env → AtOnce ns lists t env (Some x)) where
     pub applied_next : node.Application l r ≡ node_at ns p → Opening ns lists table.ops table.depth (Applied p x) l h w
     applied_next e =
         let o = takes_application table p h w m l r e in

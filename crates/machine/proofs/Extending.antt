@@ -133,4 +133,3 @@ module _ (ns : List Node) (lists lists' : Lists Value) (whole : ℕ) (cost : ℕ
     where
       function_place : {i j : ℕ} → ◌≡◌ {A = Node} (node.Function i) (node.Function j) → i ≡ j
       function_place q = cc
-

@@ -40,7 +40,7 @@ on_the_way ns lists r left root run s e h =
     }
 
 module _ (ns : List Node) (lists lists' : Lists Value) (r : Room) (left left' steps_left : ℕ) (root : Root) (table table' : Operations) (from : Next) (s : Reckoned)
-  (o : OnTheWay ns lists r left root table from s) where
+    (o : OnTheWay ns lists r left root table from s) where
   -- no reduction: the run is still on its way
   pub nearer : (to : Next) → Goes ns r lists lists' left left' steps_left table' (Nearer to) s.work → OnTheWay ns lists' r left' root table' to s
   nearer to g =

@@ -65,4 +65,4 @@ pub record Opening (ns : List Node) (lists : Lists Value) (ops : List Operation)
 -- a run goes on with a value that was found, or with a node that is to be met
 abbrev pub Follows : List Node → Lists Value → Operations → Next → Work → Type 0
 Follows ns lists table (next.Value x) w = HasFound ns lists table x w
-Follows ns lists table (next.Node p h) w = Meets ns lists table p h w
+Follows ns lists table (next.Node m) w = Meets ns lists table m.place m.environment w

@@ -14,7 +14,7 @@ ghost use Rattle.machine.specs.Standing.{Readied};
 ghost use Rattle.machine.specs.Reducing.{room_of};
 ghost use Rattle.machine.specs.Running.{state_of, sum_ahead as sum_is_ahead, StandsAt, NeverStuck, NotStuckFor, Begins, rooted, OnTheWay};
 
-use crate::next::{Gone, Next};
+use crate::next::{Gone, Met, Next};
 use crate::operation::Operation;
 use crate::operations::Operations;
 use crate::settle::go_on;
@@ -83,7 +83,7 @@ impl Machine {
     }
 
     /// Goes on from what is next, until the run ends, or waits with no step left of those granted.
-    #[inline(always)]
+    #[inline(never)]
     fn walk<W: Store<Elem = Value>>(
         &mut self,
         nodes: &[Node],
@@ -131,10 +131,10 @@ impl Machine {
     {
         self.table.clear();
         self.count = 0;
-        let root = Next::Node {
+        let root = Next::Node(Met {
             place: 0,
             environment,
-        };
+        });
         self.walk(nodes, store, root, 0);
     }
 

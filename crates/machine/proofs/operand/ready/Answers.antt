@@ -9,7 +9,7 @@ returns-then-left-eq0-clause-goes g c w f = (
   λ h. refl,
   refl,
   put_back c.args.nodes.now (g.W.Store.lists c.args.store.now) c.args.table.now.ops c.args.table.now.depth c.push.new.self c.args.op c.args.value w c.requires.ready
-  c.push.ensures.ops c.push.ensures.depth f,
+      c.push.ensures.ops c.push.ensures.depth f,
 )
 
 pub returns-in-Found-clause-goes : goal.returns-in-Found-clause-goes

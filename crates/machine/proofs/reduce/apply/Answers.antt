@@ -27,7 +27,7 @@ enter_body-requires g c =
     let t = c.requires.hand in
     record {
       known = function_known c.args.nodes.now (g.W.Store.lists c.args.store.now) t.0 t.1 c.args.node c.in-Function.function c.in-Function.environment c.args.argument t.2
-      (subst (λ x. InHand c.args.nodes.now (g.W.Store.lists c.args.store.now) t.0 t.1 (Applied c.args.node c.args.argument) x t.2) c.in-Function.is t.3);
+          (subst (λ x. InHand c.args.nodes.now (g.W.Store.lists c.args.store.now) t.0 t.1 (Applied c.args.node c.args.argument) x t.2) c.in-Function.is t.3);
     }
 
 pub returns-clause-reduces : goal.returns-clause-reduces

@@ -35,7 +35,7 @@ returns-in_default g c =
         λ h. refl,
         refl,
         over c.args.nodes.now (g.W.Store.lists c.args.store.now) c.args.table.now c.args.place c.args.environment w m c.if-table-eq-MOST_OPEN.true c.node.result c.node.ensures
-        (is_operation c.node.result c.in_default.not-Number c.in_default.not-Truth c.in_default.not-Variable c.in_default.not-Function),
+            (is_operation c.node.result c.in_default.not-Number c.in_default.not-Truth c.in_default.not-Variable c.in_default.not-Function),
       );
       lessens = tt;
       still = λ e. refl;

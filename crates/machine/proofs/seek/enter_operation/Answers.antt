@@ -35,9 +35,12 @@ returns-in-Some-clause-lessens g c =
 
 pub returns-in-None-clause-goes : goal.returns-in-None-clause-goes
 returns-in-None-clause-goes g c w m =
-    subst (λ r. Goes c.args.nodes.now (room_of (g.W.Store.whole c.args.store.now) (g.W.Store.cost c.args.store.now)) (g.W.Store.lists c.args.store.now) (g.W.Store.lists c.args.store.now) (g.W.Store.room c.args.store.now) (g.W.Store.room c.args.store.now) c.args.left c.open.new.table r w) (sym c.open.ensures.next)
-    (λ h. refl, refl, opened c.args.nodes.now (g.W.Store.lists c.args.store.now) c.args.table.now.ops c.args.table.now.depth (Argument c.args.place c.in-Application.function c.args.environment) c.in-Application.argument c.args.environment w
-    (takes_application c.args.nodes.now (g.W.Store.lists c.args.store.now) c.args.table.now c.args.place c.args.environment w m c.in-Application.function c.in-Application.argument c.in-Application.ensures) c.open.new.table c.open.ensures.ops c.open.ensures.depth)
+    subst (λ r. Goes c.args.nodes.now (room_of (g.W.Store.whole c.args.store.now) (g.W.Store.cost c.args.store.now)) (g.W.Store.lists c.args.store.now) (g.W.Store.lists c.args.store.now) (g.W.Store.room c.args.store.now) (g.W.Store.room c.args.store.now) c.args.left c.open.new.table r w) (sym c.open.ensures.next) (
+      λ h. refl,
+      refl,
+      opened c.args.nodes.now (g.W.Store.lists c.args.store.now) c.args.table.now.ops c.args.table.now.depth (Argument c.args.place c.in-Application.function c.args.environment) c.in-Application.argument c.args.environment w
+          (takes_application c.args.nodes.now (g.W.Store.lists c.args.store.now) c.args.table.now c.args.place c.args.environment w m c.in-Application.function c.in-Application.argument c.in-Application.ensures) c.open.new.table c.open.ensures.ops c.open.ensures.depth,
+    )
 
 pub returns-in-None-clause-lessens : goal.returns-in-None-clause-lessens
 returns-in-None-clause-lessens g c =
@@ -88,9 +91,12 @@ returns-in-Some-leaf-clause-lessens g c =
 
 pub returns-in-None-leaf-clause-goes : goal.returns-in-None-leaf-clause-goes
 returns-in-None-leaf-clause-goes g c w m =
-    subst (λ r. Goes c.args.nodes.now (room_of (g.W.Store.whole c.args.store.now) (g.W.Store.cost c.args.store.now)) (g.W.Store.lists c.args.store.now) (g.W.Store.lists c.args.store.now) (g.W.Store.room c.args.store.now) (g.W.Store.room c.args.store.now) c.args.left c.open-in-None-leaf.new.table r w) (sym c.open-in-None-leaf.ensures.next)
-    (λ h. refl, refl, opened c.args.nodes.now (g.W.Store.lists c.args.store.now) c.args.table.now.ops c.args.table.now.depth (SumRight c.args.place c.in-Sum.l c.args.environment) c.in-Sum.r c.args.environment w
-    (takes_sum c.args.nodes.now (g.W.Store.lists c.args.store.now) c.args.table.now c.args.place c.args.environment w m c.in-Sum.l c.in-Sum.r c.in-Sum.ensures) c.open-in-None-leaf.new.table c.open-in-None-leaf.ensures.ops c.open-in-None-leaf.ensures.depth)
+    subst (λ r. Goes c.args.nodes.now (room_of (g.W.Store.whole c.args.store.now) (g.W.Store.cost c.args.store.now)) (g.W.Store.lists c.args.store.now) (g.W.Store.lists c.args.store.now) (g.W.Store.room c.args.store.now) (g.W.Store.room c.args.store.now) c.args.left c.open-in-None-leaf.new.table r w) (sym c.open-in-None-leaf.ensures.next) (
+      λ h. refl,
+      refl,
+      opened c.args.nodes.now (g.W.Store.lists c.args.store.now) c.args.table.now.ops c.args.table.now.depth (SumRight c.args.place c.in-Sum.l c.args.environment) c.in-Sum.r c.args.environment w
+          (takes_sum c.args.nodes.now (g.W.Store.lists c.args.store.now) c.args.table.now c.args.place c.args.environment w m c.in-Sum.l c.in-Sum.r c.in-Sum.ensures) c.open-in-None-leaf.new.table c.open-in-None-leaf.ensures.ops c.open-in-None-leaf.ensures.depth,
+    )
 
 pub returns-in-None-leaf-clause-lessens : goal.returns-in-None-leaf-clause-lessens
 returns-in-None-leaf-clause-lessens g c =
@@ -127,9 +133,12 @@ returns-in-Some-leaf-2-clause-lessens g c =
 
 pub returns-in-None-leaf-2-clause-goes : goal.returns-in-None-leaf-2-clause-goes
 returns-in-None-leaf-2-clause-goes g c w m =
-    subst (λ r. Goes c.args.nodes.now (room_of (g.W.Store.whole c.args.store.now) (g.W.Store.cost c.args.store.now)) (g.W.Store.lists c.args.store.now) (g.W.Store.lists c.args.store.now) (g.W.Store.room c.args.store.now) (g.W.Store.room c.args.store.now) c.args.left c.open-in-None-leaf-2.new.table r w) (sym c.open-in-None-leaf-2.ensures.next)
-    (λ h. refl, refl, opened c.args.nodes.now (g.W.Store.lists c.args.store.now) c.args.table.now.ops c.args.table.now.depth (CompareRight c.args.place c.in-AtMost.l c.args.environment) c.in-AtMost.r c.args.environment w
-    (takes_at_most c.args.nodes.now (g.W.Store.lists c.args.store.now) c.args.table.now c.args.place c.args.environment w m c.in-AtMost.l c.in-AtMost.r c.in-AtMost.ensures) c.open-in-None-leaf-2.new.table c.open-in-None-leaf-2.ensures.ops c.open-in-None-leaf-2.ensures.depth)
+    subst (λ r. Goes c.args.nodes.now (room_of (g.W.Store.whole c.args.store.now) (g.W.Store.cost c.args.store.now)) (g.W.Store.lists c.args.store.now) (g.W.Store.lists c.args.store.now) (g.W.Store.room c.args.store.now) (g.W.Store.room c.args.store.now) c.args.left c.open-in-None-leaf-2.new.table r w) (sym c.open-in-None-leaf-2.ensures.next) (
+      λ h. refl,
+      refl,
+      opened c.args.nodes.now (g.W.Store.lists c.args.store.now) c.args.table.now.ops c.args.table.now.depth (CompareRight c.args.place c.in-AtMost.l c.args.environment) c.in-AtMost.r c.args.environment w
+          (takes_at_most c.args.nodes.now (g.W.Store.lists c.args.store.now) c.args.table.now c.args.place c.args.environment w m c.in-AtMost.l c.in-AtMost.r c.in-AtMost.ensures) c.open-in-None-leaf-2.new.table c.open-in-None-leaf-2.ensures.ops c.open-in-None-leaf-2.ensures.depth,
+    )
 
 pub returns-in-None-leaf-2-clause-lessens : goal.returns-in-None-leaf-2-clause-lessens
 returns-in-None-leaf-2-clause-lessens g c =

@@ -15,7 +15,7 @@ walk-requires g c =
         rooted c.args.environment b.1,
         begun b.1 b.0,
         begins_on_the_way c.args.nodes.now (g.W.Store.lists c.args.store.now) (g.W.Store.whole c.args.store.now) (g.W.Store.room c.args.store.now) c.args.environment b.0 b.1 b.2
-        (g.W.Store.cost c.args.store.now) c.clear.new.self c.clear.ensures,
+            (g.W.Store.cost c.args.store.now) c.clear.new.self c.clear.ensures,
         λ n few. let none : 0 ≡ n = omega arith in subst (λ k. move (steps (room_of (g.W.Store.whole c.args.store.now) (g.W.Store.cost c.args.store.now)) k (begun b.1 b.0)).work ≢ stuck) none b.3,
       );
     }

@@ -26,7 +26,7 @@ loop-to-preserved-in-Nearer g c =
           let here = steps (room_of (g.W.Store.whole c.args.store.now) (g.W.Store.cost c.args.store.now)) (c.args.granted - c.loop-to.left) s in
           let way = c.loop-to.invariant.goes root s o in
           let went = subst (λ r. Goes c.args.nodes.now r (g.W.Store.lists c.loop-to.store) (g.W.Store.lists c.go_on.new.store) (g.W.Store.room c.loop-to.store) (g.W.Store.room c.go_on.new.store) c.loop-to.left c.go_on.new.table (Nearer c.in-Nearer.to) here.work) same
-    (c.in-Nearer.ensures.goes here.work way.1.follows) in
+          (c.in-Nearer.ensures.goes here.work way.1.follows) in
           (way.0, nearer c.args.nodes.now (g.W.Store.lists c.loop-to.store) (g.W.Store.lists c.go_on.new.store) (room_of (g.W.Store.whole c.args.store.now) (g.W.Store.cost c.args.store.now)) (g.W.Store.room c.loop-to.store) (g.W.Store.room c.go_on.new.store) c.loop-to.left root c.loop-to.self.table c.go_on.new.table c.loop-to.next here way.1 c.in-Nearer.to went);
       few = c.loop-to.invariant.few;
       count = c.loop-to.invariant.count;
@@ -69,7 +69,7 @@ loop-to-preserved g c =
           let here = steps (room_of (g.W.Store.whole c.args.store.now) (g.W.Store.cost c.args.store.now)) (c.args.granted - c.loop-to.left) s in
           let way = c.loop-to.invariant.goes root s o in
           let went = subst (λ r. Goes c.args.nodes.now r (g.W.Store.lists c.loop-to.store) (g.W.Store.lists c.go_on.new.store) (g.W.Store.room c.loop-to.store) (g.W.Store.room c.go_on.new.store) c.loop-to.left c.go_on.new.table (On c.in-On.to) here.work) same
-    (c.in-On.ensures.goes here.work way.1.follows) in
+          (c.in-On.ensures.goes here.work way.1.follows) in
           let on = goes_on c.args.nodes.now (g.W.Store.lists c.loop-to.store) (g.W.Store.lists c.go_on.new.store) (room_of (g.W.Store.whole c.args.store.now) (g.W.Store.cost c.args.store.now)) (g.W.Store.room c.loop-to.store) (g.W.Store.room c.go_on.new.store) c.loop-to.left root c.loop-to.self.table c.go_on.new.table c.loop-to.next here way.1 c.in-On.to went in
           let counted = way.0 in
           let one = on.0 in
