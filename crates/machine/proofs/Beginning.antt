@@ -38,7 +38,7 @@ module _ (rule : Rule) (lists : Lists Value) (whole left h : ℕ) (t : Tree) (re
         whole = refl;
       }
 
-  pub begins_on_the_way : (cost : ℕ → ℕ) (table : Operations) → table.depth ≡ 0 → OnTheWay rule lists (room_of whole cost) left (rooted h readings) table (next.Node 0 h) (begun readings t)
+  pub begins_on_the_way : (cost : ℕ → ℕ) (table : Operations) → table.depth ≡ 0 → OnTheWay rule lists (room_of whole cost) left (rooted h readings) table (next.Node (record { place = 0; environment = h })) (begun readings t)
   begins_on_the_way cost table e =
       record {
         left_free = let e = b.unspent in omega arith;

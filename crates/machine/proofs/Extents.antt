@@ -134,9 +134,9 @@ module _ (rule : Rule) where
         let a = bounded table.ops table.depth f.opens f.stacked in
         let b = mul-le-mul_right (length rule.nodes) low in
         omega arith
-    to_go_bounded table (next.Node p h) w low m =
+    to_go_bounded table (next.Node q) w low m =
         let a = bounded table.ops table.depth m.opens m.stacked in
         let b = mul-le-mul_right (length rule.nodes) low in
-        let e = at_extent _ p m.term m.at in
+        let e = at_extent _ q.place m.term m.at in
         let i = m.at.inside in
         omega arith

@@ -32,4 +32,4 @@ to_meet ns table p = 2 * (weighed ns table.ops table.depth + extent (length ns) 
 
 abbrev pub to_go : List Node → Operations → Next → ℕ
 to_go ns table (next.Value x) = suc (2 * weighed ns table.ops table.depth)
-to_go ns table (next.Node p h) = to_meet ns table p
+to_go ns table (next.Node m) = to_meet ns table m.place

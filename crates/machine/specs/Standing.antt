@@ -64,4 +64,4 @@ pub record Opening (rule : Rule) (lists : Lists Value) (ops : List Operation) (d
 -- a run goes on with a value that was found, or with a node that is to be met
 abbrev pub Follows : Rule → Lists Value → Operations → Next → Work → Type 0
 Follows rule lists table (next.Value x) w = HasFound rule lists table x w
-Follows rule lists table (next.Node p h) w = Meets rule lists table p h w
+Follows rule lists table (next.Node m) w = Meets rule lists table m.place m.environment w

@@ -2,13 +2,21 @@
 use crate::steps::State;
 use values::Value;
 
+/// A node that is to be met, in the environment of a handle.
+// A struct of its own, so that within `Next` the handle lies where a value has its number or its handle: else each
+// of the two is taken apart whenever one may be the other.
+#[derive(Clone, Copy)]
+pub struct Met {
+    pub place: u16,
+    pub environment: u32,
+}
+
 /// What a run goes on with.
 #[derive(Clone, Copy)]
 pub enum Next {
     /// A value that was found.
     Value(Value),
-    /// A node that is to be met.
-    Node { place: u16, environment: u32 },
+    Node(Met),
 }
 
 /// What comes of a node that was met, or of a value that was found.

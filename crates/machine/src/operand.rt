@@ -11,7 +11,7 @@ ghost use Rattle.machine.specs.declared.next.Next.TheVariants.{Node as MeetNode}
 ghost use Rattle.machine.specs.Extents.{to_meet};
 ghost use Rattle.machine.specs.Going.{Goes, Lessens};
 
-use crate::next::{Gone, Next};
+use crate::next::{Gone, Met, Next};
 use crate::operation::Operation;
 use crate::operations::Operations;
 use crate::reduce::{Reduced, reduce};
@@ -47,7 +47,7 @@ pub fn ready<W: Environments>(
     }
     match reduce(nodes, store, op, value) {
         Reduced::Found(value) => Gone::On(Next::Value(value)),
-        Reduced::Body { place, environment } => Gone::On(Next::Node { place, environment }),
+        Reduced::Body { place, environment } => Gone::On(Next::Node(Met { place, environment })),
         Reduced::Range { node, beyond } => Gone::Ended(State::Range { node, beyond }),
         Reduced::NoStore(node) => Gone::Ended(State::NoStore(node)),
     }
@@ -59,10 +59,10 @@ pub fn open(table: &mut Operations, op: Operation, place: u16, environment: u32)
     requires { table.old.depth < 256 }
     ensures ops { Topped table.old.ops table.new.ops table.old.depth op }
     ensures depth { table.new.depth ≡ table.old.depth + 1 }
-    ensures next { result ≡ Nearer (MeetNode place environment) }
+    ensures next { result ≡ Nearer (MeetNode (record { place = place; environment = environment })) }
 {
     table.push(op);
-    Gone::Nearer(Next::Node { place, environment })
+    Gone::Nearer(Next::Node(Met { place, environment }))
 }
 
 /// The last operand of an operation in hand: a leaf is worked out at once, for another the operation is opened.

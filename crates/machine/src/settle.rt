@@ -71,7 +71,12 @@ fn come_back<W: Environments>(
             let op = Operation::CompareLeft { node, right: value };
             operand(nodes, store, table, op, l, environment, left)
         }
-        _ => ready(nodes, store, table, op, value, left),
+        // An arm for each, so that what the operation is need not be asked again where it is reduced.
+        Operation::Applied { .. } => ready(nodes, store, table, op, value, left),
+        Operation::Bound { .. } => ready(nodes, store, table, op, value, left),
+        Operation::SumLeft { .. } => ready(nodes, store, table, op, value, left),
+        Operation::CompareLeft { .. } => ready(nodes, store, table, op, value, left),
+        Operation::Condition { .. } => ready(nodes, store, table, op, value, left),
     }
 }
 
@@ -94,6 +99,6 @@ pub fn go_on<W: Environments>(
 {
     match next {
         Next::Value(value) => come_back(nodes, store, table, value, left),
-        Next::Node { place, environment } => enter(nodes, store, table, place, environment, left),
+        Next::Node(met) => enter(nodes, store, table, met.place, met.environment, left),
     }
 }

@@ -14,7 +14,7 @@ ghost use Rattle.machine.specs.Standing.{Readied};
 ghost use Rattle.machine.specs.Reducing.{room_of};
 ghost use Rattle.machine.specs.Running.{state_of, sum_ahead as sum_is_ahead, StandsAt, NeverStuck, NotStuckFor, Begins, rooted, OnTheWay};
 
-use crate::next::{Gone, Next};
+use crate::next::{Gone, Met, Next};
 use crate::operation::Operation;
 use crate::operations::Operations;
 use crate::settle::go_on;
@@ -83,7 +83,7 @@ impl Machine {
     }
 
     /// Goes on from what is next, until the run ends, or waits with no step left of those granted.
-    #[inline(always)]
+    #[inline(never)]
     fn walk<W: Environments>(&mut self, nodes: &[Node], store: &mut W, from: Next, granted: u32)
         requires low { self.old.count + granted < 4294967296 }
         requires goes_on { (root : Root) × (s : Reckoned) × OnTheWay (rule_of nodes.now (W.Store.base store.old)) (W.Store.lists store.old) (room_of (W.Store.whole store.old) (W.Store.cost store.old)) (W.Store.room store.old) root self.old.table from s × NotStuckFor (room_of (W.Store.whole store.old) (W.Store.cost store.old)) granted s }
@@ -125,10 +125,10 @@ impl Machine {
     {
         self.table.clear();
         self.count = 0;
-        let root = Next::Node {
+        let root = Next::Node(Met {
             place: 0,
             environment,
-        };
+        });
         self.walk(nodes, store, root, 0);
     }
 

@@ -1,8 +1,9 @@
-use Rattle.std.proofs.Common.{◌<◌, sym, refl, arith}
+use Rattle.std.proofs.Common.{◌<◌, sym, refl, subst, arith}
 use Rattle.machine.specs.declared.operation.Operation.TheVariants.{Argument, SumRight, CompareRight}
 use Rattle.machine.proofs.Entering.{gives_argument, gives_sum, gives_compare}
 use Rattle.machine.proofs.Extents.{gives_way}
-use Rattle.machine.proofs.Settling.{popped, is_ready}
+use Rattle.machine.specs.Opens.{IsReady}
+use Rattle.machine.proofs.Settling.{popped}
 use Rattle.machine.proofs.settle.come_back.Goals as goal
 use Rattle.machine.specs.Places.{rule_of}
 
@@ -95,7 +96,7 @@ ready-requires g c =
     let deep = c.pop.ensures.depth in
     record {
       room = omega arith;
-      ready = is_ready c.top-op.result c.in_default.not-Argument c.in_default.not-SumRight c.in_default.not-CompareRight;
+      ready = subst IsReady (sym c.in-Applied.is) tt;
       hand = (
         f.0,
         popped (rule_of c.args.nodes.now (g.W.Store.base c.args.store.now)) (g.W.Store.lists c.args.store.now) c.args.table.now c.pop.new.self c.args.value f.0 c.top-op.result
@@ -104,15 +105,115 @@ ready-requires g c =
       );
     }
 
-pub returns-in_default : goal.returns-in_default
-returns-in_default g c =
+pub returns-in-Applied-clause-goes : goal.returns-in-Applied-clause-goes
+returns-in-Applied-clause-goes g c w f =
     let some_open : 0 < c.args.table.now.depth = omega arith in
+    c.ready.ensures.goes w (popped (rule_of c.args.nodes.now (g.W.Store.base c.args.store.now)) (g.W.Store.lists c.args.store.now) c.args.table.now c.pop.new.self c.args.value w c.top-op.result
+    some_open c.pop.ensures.ops c.pop.ensures.depth (sym c.top-op.ensures) f)
+
+pub returns-in-Applied-clause-lessens : goal.returns-in-Applied-clause-lessens
+returns-in-Applied-clause-lessens g c = c.ready.ensures.lessens _
+
+pub ready-requires-in-Bound : goal.ready-requires-in-Bound
+ready-requires-in-Bound g c =
+    let some_open : 0 < c.args.table.now.depth = omega arith in
+    let f = c.requires.found in
+    let few = c.args.table.now.low in
+    let deep = c.pop.ensures.depth in
     record {
-      goes = λ w f. c.ready.ensures.goes w (popped (rule_of c.args.nodes.now (g.W.Store.base c.args.store.now)) (g.W.Store.lists c.args.store.now) c.args.table.now c.pop.new.self c.args.value w c.top-op.result
-          some_open c.pop.ensures.ops c.pop.ensures.depth (sym c.top-op.ensures) f);
-      lessens = c.ready.ensures.lessens _;
-      still = c.ready.ensures.still;
-      base = c.ready.ensures.base;
-      whole = c.ready.ensures.whole;
-      cost = c.ready.ensures.cost;
+      room = omega arith;
+      ready = subst IsReady (sym c.in-Bound.is) tt;
+      hand = (
+        f.0,
+        popped (rule_of c.args.nodes.now (g.W.Store.base c.args.store.now)) (g.W.Store.lists c.args.store.now) c.args.table.now c.pop.new.self c.args.value f.0 c.top-op.result
+            some_open c.pop.ensures.ops c.pop.ensures.depth (sym c.top-op.ensures) f.1,
+        f.2,
+      );
     }
+
+pub returns-in-Bound-clause-goes : goal.returns-in-Bound-clause-goes
+returns-in-Bound-clause-goes g c w f =
+    let some_open : 0 < c.args.table.now.depth = omega arith in
+    c.ready-in-Bound.ensures.goes w (popped (rule_of c.args.nodes.now (g.W.Store.base c.args.store.now)) (g.W.Store.lists c.args.store.now) c.args.table.now c.pop.new.self c.args.value w c.top-op.result
+    some_open c.pop.ensures.ops c.pop.ensures.depth (sym c.top-op.ensures) f)
+
+pub returns-in-Bound-clause-lessens : goal.returns-in-Bound-clause-lessens
+returns-in-Bound-clause-lessens g c = c.ready-in-Bound.ensures.lessens _
+
+pub ready-requires-in-SumLeft : goal.ready-requires-in-SumLeft
+ready-requires-in-SumLeft g c =
+    let some_open : 0 < c.args.table.now.depth = omega arith in
+    let f = c.requires.found in
+    let few = c.args.table.now.low in
+    let deep = c.pop.ensures.depth in
+    record {
+      room = omega arith;
+      ready = subst IsReady (sym c.in-SumLeft.is) tt;
+      hand = (
+        f.0,
+        popped (rule_of c.args.nodes.now (g.W.Store.base c.args.store.now)) (g.W.Store.lists c.args.store.now) c.args.table.now c.pop.new.self c.args.value f.0 c.top-op.result
+            some_open c.pop.ensures.ops c.pop.ensures.depth (sym c.top-op.ensures) f.1,
+        f.2,
+      );
+    }
+
+pub returns-in-SumLeft-clause-goes : goal.returns-in-SumLeft-clause-goes
+returns-in-SumLeft-clause-goes g c w f =
+    let some_open : 0 < c.args.table.now.depth = omega arith in
+    c.ready-in-SumLeft.ensures.goes w (popped (rule_of c.args.nodes.now (g.W.Store.base c.args.store.now)) (g.W.Store.lists c.args.store.now) c.args.table.now c.pop.new.self c.args.value w c.top-op.result
+    some_open c.pop.ensures.ops c.pop.ensures.depth (sym c.top-op.ensures) f)
+
+pub returns-in-SumLeft-clause-lessens : goal.returns-in-SumLeft-clause-lessens
+returns-in-SumLeft-clause-lessens g c = c.ready-in-SumLeft.ensures.lessens _
+
+pub ready-requires-in-CompareLeft : goal.ready-requires-in-CompareLeft
+ready-requires-in-CompareLeft g c =
+    let some_open : 0 < c.args.table.now.depth = omega arith in
+    let f = c.requires.found in
+    let few = c.args.table.now.low in
+    let deep = c.pop.ensures.depth in
+    record {
+      room = omega arith;
+      ready = subst IsReady (sym c.in-CompareLeft.is) tt;
+      hand = (
+        f.0,
+        popped (rule_of c.args.nodes.now (g.W.Store.base c.args.store.now)) (g.W.Store.lists c.args.store.now) c.args.table.now c.pop.new.self c.args.value f.0 c.top-op.result
+            some_open c.pop.ensures.ops c.pop.ensures.depth (sym c.top-op.ensures) f.1,
+        f.2,
+      );
+    }
+
+pub returns-in-CompareLeft-clause-goes : goal.returns-in-CompareLeft-clause-goes
+returns-in-CompareLeft-clause-goes g c w f =
+    let some_open : 0 < c.args.table.now.depth = omega arith in
+    c.ready-in-CompareLeft.ensures.goes w (popped (rule_of c.args.nodes.now (g.W.Store.base c.args.store.now)) (g.W.Store.lists c.args.store.now) c.args.table.now c.pop.new.self c.args.value w c.top-op.result
+    some_open c.pop.ensures.ops c.pop.ensures.depth (sym c.top-op.ensures) f)
+
+pub returns-in-CompareLeft-clause-lessens : goal.returns-in-CompareLeft-clause-lessens
+returns-in-CompareLeft-clause-lessens g c = c.ready-in-CompareLeft.ensures.lessens _
+
+pub ready-requires-in-Condition : goal.ready-requires-in-Condition
+ready-requires-in-Condition g c =
+    let some_open : 0 < c.args.table.now.depth = omega arith in
+    let f = c.requires.found in
+    let few = c.args.table.now.low in
+    let deep = c.pop.ensures.depth in
+    record {
+      room = omega arith;
+      ready = subst IsReady (sym c.in-Condition.is) tt;
+      hand = (
+        f.0,
+        popped (rule_of c.args.nodes.now (g.W.Store.base c.args.store.now)) (g.W.Store.lists c.args.store.now) c.args.table.now c.pop.new.self c.args.value f.0 c.top-op.result
+            some_open c.pop.ensures.ops c.pop.ensures.depth (sym c.top-op.ensures) f.1,
+        f.2,
+      );
+    }
+
+pub returns-in-Condition-clause-goes : goal.returns-in-Condition-clause-goes
+returns-in-Condition-clause-goes g c w f =
+    let some_open : 0 < c.args.table.now.depth = omega arith in
+    c.ready-in-Condition.ensures.goes w (popped (rule_of c.args.nodes.now (g.W.Store.base c.args.store.now)) (g.W.Store.lists c.args.store.now) c.args.table.now c.pop.new.self c.args.value w c.top-op.result
+    some_open c.pop.ensures.ops c.pop.ensures.depth (sym c.top-op.ensures) f)
+
+pub returns-in-Condition-clause-lessens : goal.returns-in-Condition-clause-lessens
+returns-in-Condition-clause-lessens g c = c.ready-in-Condition.ensures.lessens _
