@@ -1,5 +1,6 @@
 -- Operands that are worked out at once. Assumes nothing.
-use Rattle.std.proofs.Common.{◌≡◌, ◌≢◌, ℕ, ◌+◌, ◌∷◌, Some, refl, sym, ap, ◌∙◌, arith}
+use Rattle.std.proofs.Common.{◌≡◌, ◌≢◌, ℕ, ℤ, Bool, ◌⊎◌, inl, inr, Some, refl, sym, ap, ◌∙◌, subst}
+use Rattle.syntax.specs.declared.node.Node.{Node}
 use Rattle.syntax.specs.declared.node.Node.TheVariants as node
 use Rattle.store.specs.Lists.{Lists}
 use Rattle.values.specs.declared.Value.{Value}
@@ -10,16 +11,36 @@ use Rattle.reckoning.specs.Environments.{Env, size}
 use Rattle.reckoning.specs.Environments as plain
 use Rattle.reckoning.specs.Work.{Work, met}
 use Rattle.reckoning.specs.Moves.{move, stuck}
-use Rattle.reckoning.specs.Contexts.{Open, argument, applied, sum_right, sum_left, compare_right, compare_left, inside, plugged}
-use Rattle.machine.specs.declared.operation.Operation.TheVariants.{Applied, SumLeft, CompareLeft}
 use Rattle.machine.specs.declared.operations.Operations.{Operations}
 use Rattle.machine.specs.Places.{Rule, At, BodyOf}
 use Rattle.machine.specs.Handles.{IsListOf}
-use Rattle.machine.specs.Opens.{Topped}
+use Rattle.machine.specs.Opens.{IsOperation}
 use Rattle.machine.specs.Leaves.{AtOnce, GoesOn}
 use Rattle.machine.specs.Standing.{Meets}
 use Rattle.machine.proofs.Placing.{shape, at_inside}
-use Rattle.machine.proofs.Entering.{goes_down}
+
+-- a node of none of the kinds of leaves
+pub is_operation : (n : Node) → ((k : ℤ) → n ≡ node.Number k → ⊥) → ((b : Bool) → n ≡ node.Truth b → ⊥) → ((d : ℕ) → n ≡ node.Variable d → ⊥) → ((j : ℕ) → n ≡ node.Reading j → ⊥) →
+    ((b : ℕ) → n ≡ node.Function b → ⊥) → IsOperation n
+is_operation (node.Number k) not_number not_truth not_variable not_reading not_function = absurd (not_number k refl)
+is_operation (node.Truth b) not_number not_truth not_variable not_reading not_function = absurd (not_truth b refl)
+is_operation (node.Variable d) not_number not_truth not_variable not_reading not_function = absurd (not_variable d refl)
+is_operation (node.Reading j) not_number not_truth not_variable not_reading not_function = absurd (not_reading j refl)
+is_operation (node.Function b) not_number not_truth not_variable not_reading not_function = absurd (not_function b refl)
+is_operation (node.Application f a) not_number not_truth not_variable not_reading not_function = tt
+is_operation (node.LetIn e b) not_number not_truth not_variable not_reading not_function = tt
+is_operation (node.Sum l r) not_number not_truth not_variable not_reading not_function = tt
+is_operation (node.AtMost l r) not_number not_truth not_variable not_reading not_function = tt
+is_operation (node.IfElse c t e) not_number not_truth not_variable not_reading not_function = tt
+
+-- a leaf is no operation
+pub no_operation : (n : Node) → ((k : ℤ) × (n ≡ node.Number k)) ⊎ (((b : Bool) × (n ≡ node.Truth b)) ⊎ (((d : ℕ) × (n ≡ node.Variable d)) ⊎ (((j : ℕ) × (n ≡ node.Reading j)) ⊎ ((b : ℕ) × (n ≡ node.Function b))))) →
+    IsOperation n → ⊥
+no_operation n (inl e) o = subst IsOperation e.1 o
+no_operation n (inr (inl e)) o = subst IsOperation e.1 o
+no_operation n (inr (inr (inl e))) o = subst IsOperation e.1 o
+no_operation n (inr (inr (inr (inl e)))) o = subst IsOperation e.1 o
+no_operation n (inr (inr (inr (inr e)))) o = subst IsOperation e.1 o
 
 module _ (rule : Rule) (lists : Lists Value) (p h : ℕ) (t : Term) (env : Env) (a : At rule (size env) p t) (i : IsListOf rule lists h env) where
   pub number_at_once : (x : _) → node.Number x ≡ node_at rule.nodes p → AtOnce rule lists t env (Some (Number x))
@@ -35,76 +56,14 @@ module _ (rule : Rule) (lists : Lists Value) (p h : ℕ) (t : Term) (env : Env) 
       (plain.function p s.0 env, ap (λ y. met y env) s.1, (refl, body, i))
 
 module _ (rule : Rule) (lists : Lists Value) where
-  module _ (table : Operations) (p h : ℕ) (w : Work) (k : ℕ) (m : Meets rule lists table p h w k) where
-    operand_goes_on : (q : ℕ) (o : Open) (t : Term) → At rule (size m.env) q t → met m.term m.env ≡ inside o (met t m.env) →
-        (move w ≢ stuck) → GoesOn rule lists q h
-    operand_goes_on q o t a e not =
-        record {
-          opens = o ∷ m.opens;
-          term = t;
-          env = m.env;
-          at = a;
-          environment = m.environment;
-          goes_on = λ s. not (ap (λ y. move y) (sym m.whole ∙ ap (λ y. plugged m.opens y) e) ∙ s);
-        }
-
-    pub met_goes_on : (move w ≢ stuck) → GoesOn rule lists p h
-    met_goes_on not =
-        record {
-          opens = m.opens;
-          term = m.term;
-          env = m.env;
-          at = m.at;
-          environment = m.environment;
-          goes_on = λ s. not (ap (λ y. move y) (sym m.whole) ∙ s);
-        }
-
-    pub argument_goes_on : (l r : ℕ) → node.Application l r ≡ node_at rule.nodes p → (move w ≢ stuck) → GoesOn rule lists r h
-    argument_goes_on l r e not =
-        let s = shape rule _ p m.term (node.Application l r) m.at e in
-        operand_goes_on r (argument p s.0 m.env) s.1 s.3.right (ap (λ t. met t m.env) s.2) not
-
-    pub sum_goes_on : (l r : ℕ) → node.Sum l r ≡ node_at rule.nodes p → (move w ≢ stuck) → GoesOn rule lists r h
-    sum_goes_on l r e not =
-        let s = shape rule _ p m.term (node.Sum l r) m.at e in
-        operand_goes_on r (sum_right p s.0 m.env) s.1 s.3.right (ap (λ t. met t m.env) s.2) not
-
-    pub comparison_goes_on : (l r : ℕ) → node.AtMost l r ≡ node_at rule.nodes p → (move w ≢ stuck) → GoesOn rule lists r h
-    comparison_goes_on l r e not =
-        let s = shape rule _ p m.term (node.AtMost l r) m.at e in
-        operand_goes_on r (compare_right p s.0 m.env) s.1 s.3.right (ap (λ t. met t m.env) s.2) not
-
-  -- the right operand is found at once: the left one is next
-
-  pub applied_next : (table table' : Operations) (p h : ℕ) (w : Work) (k l r : ℕ) (x : Value) → node.Application l r ≡ node_at rule.nodes p →
-      ((t : Term) (env : Env) → At rule (size env) r t → IsListOf rule lists h env → AtOnce rule lists t env (Some x)) →
-      Topped table.ops table'.ops table.depth (Applied p x) → table'.depth ≡ table.depth + 1 → Meets rule lists table p h w k → Meets rule lists table' l h w k
-  applied_next table table' p h w k l r x e at_once topped deep m =
-      let s = shape rule _ p m.term (node.Application l r) m.at e in
-      let b = s.3 in
-      let fewer = b.fewer in
-      let v = at_once s.1 m.env b.right m.environment in
-      goes_down rule lists table table' p h l w k (Applied p x) (applied p v.0) s.0 m b.left (v.0, refl, v.2)
-      (ap (λ y. met y m.env) s.2 ∙ ap (λ q. Work.application p (met s.0 m.env) q) v.1) (omega arith) topped deep
-
-  pub sum_next : (table table' : Operations) (p h : ℕ) (w : Work) (k l r : ℕ) (x : Value) → node.Sum l r ≡ node_at rule.nodes p →
-      ((t : Term) (env : Env) → At rule (size env) r t → IsListOf rule lists h env → AtOnce rule lists t env (Some x)) →
-      Topped table.ops table'.ops table.depth (SumLeft p x) → table'.depth ≡ table.depth + 1 → Meets rule lists table p h w k → Meets rule lists table' l h w k
-  sum_next table table' p h w k l r x e at_once topped deep m =
-      let s = shape rule _ p m.term (node.Sum l r) m.at e in
-      let b = s.3 in
-      let fewer = b.fewer in
-      let v = at_once s.1 m.env b.right m.environment in
-      goes_down rule lists table table' p h l w k (SumLeft p x) (sum_left p v.0) s.0 m b.left (v.0, refl, v.2)
-      (ap (λ y. met y m.env) s.2 ∙ ap (λ q. Work.sum p (met s.0 m.env) q) v.1) (omega arith) topped deep
-
-  pub comparison_next : (table table' : Operations) (p h : ℕ) (w : Work) (k l r : ℕ) (x : Value) → node.AtMost l r ≡ node_at rule.nodes p →
-      ((t : Term) (env : Env) → At rule (size env) r t → IsListOf rule lists h env → AtOnce rule lists t env (Some x)) →
-      Topped table.ops table'.ops table.depth (CompareLeft p x) → table'.depth ≡ table.depth + 1 → Meets rule lists table p h w k → Meets rule lists table' l h w k
-  comparison_next table table' p h w k l r x e at_once topped deep m =
-      let s = shape rule _ p m.term (node.AtMost l r) m.at e in
-      let b = s.3 in
-      let fewer = b.fewer in
-      let v = at_once s.1 m.env b.right m.environment in
-      goes_down rule lists table table' p h l w k (CompareLeft p x) (compare_left p v.0) s.0 m b.left (v.0, refl, v.2)
-      (ap (λ y. met y m.env) s.2 ∙ ap (λ q. Work.at_most p (met s.0 m.env) q) v.1) (omega arith) topped deep
+  -- a node that is met within a work that goes on
+  pub met_goes_on : (table : Operations) (p h : ℕ) (w : Work) → Meets rule lists table p h w → (move w ≢ stuck) → GoesOn rule lists p h
+  met_goes_on table p h w m not =
+      record {
+        opens = m.opens;
+        term = m.term;
+        env = m.env;
+        at = m.at;
+        environment = m.environment;
+        goes_on = λ s. not (ap (λ y. move y) (sym m.whole) ∙ s);
+      }

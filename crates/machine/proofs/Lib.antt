@@ -12,3 +12,4 @@ pub mod Granting
 pub mod Beginning
 mod Fusing
 mod Going
+mod Extents

@@ -1,7 +1,6 @@
 -- The innermost operation is reduced. Assumes nothing.
-use Rattle.std.proofs.Common.{◌≡◌, ℕ, ◌+◌, ◌-◌, Bool, true, false, ℤ, refl, sym, ap, ◌∙◌, subst, arith}
+use Rattle.std.proofs.Common.{◌≡◌, ℕ, Bool, true, false, List, ℤ, refl, sym, ap, ◌∙◌, subst, arith}
 use Rattle.std.specs.Int.Signed.{le_z}
-use Rattle.syntax.specs.Tree.{nodes}
 use Rattle.store.specs.Lists.{Lists}
 use Rattle.values.specs.declared.Value.{Value}
 use Rattle.values.specs.declared.Value.TheVariants.{Number, Truth, Function}
@@ -20,9 +19,8 @@ use Rattle.machine.specs.declared.operation.Operation.TheVariants.{SumLeft, Comp
 use Rattle.machine.specs.declared.operations.Operations.{Operations}
 use Rattle.machine.specs.declared.reduce.Reduced.TheVariants as reduced
 use Rattle.machine.specs.Handles.{StandsFor}
-use Rattle.machine.specs.Opens.{OpenFor, Stacked, weighed}
-use Rattle.machine.specs.Reducing.{OnTop, Moved, Reduces, Popped}
-use Rattle.machine.proofs.Stacking.{Top, top_of}
+use Rattle.machine.specs.Standing.{InHand}
+use Rattle.machine.specs.Reducing.{Moved, Reduces}
 use Rattle.machine.specs.Places.{Rule}
 
 -- what a run value that is no number, or no truth, stands for
@@ -103,28 +101,12 @@ module _ (rule : Rule) (lists : Lists Value) where
   applied_stuck n u (Number i) (plain.truth b) not s = refl
   applied_stuck n u (Truth c) (plain.truth b) not s = refl
 
-  module _ (table : Operations) (op : Operation) (x : Value) (w : Work) (t : OnTop rule lists table op x w) where
-    abbrev pub top : Top rule lists table.ops table.depth t.found.opens
-    top = top_of rule lists table.ops table.depth t.found.opens t.some_open t.found.stacked
-
-    abbrev pub here : OpenFor rule lists op top.first
-    here = subst (λ y. OpenFor rule lists y top.first) t.is top.open_for
-
-    whole_top : plugged top.rest (inside top.first (done t.found.value)) ≡ w
-    whole_top = ap (λ os. plugged os (done t.found.value)) (sym top.is) ∙ t.found.whole
-
-    -- the whole moves as the innermost operation does
-    pub moved : (o : Open) (v : plain.Value) (m : Move) → top.first ≡ o → t.found.value ≡ v → move (inside o (done v)) ≡ m → ¬ (m ≡ rests) → move w ≡ within (plugged top.rest) m
+  module _ (ops : List Operation) (d : ℕ) (op : Operation) (x : Value) (w : Work) (t : InHand rule lists ops d op x w) where
+    -- the whole moves as the operation in hand does
+    pub moved : (o : Open) (v : plain.Value) (m : Move) → t.first ≡ o → t.value ≡ v → move (inside o (done v)) ≡ m → ¬ (m ≡ rests) → move w ≡ within (plugged t.rest) m
     moved o v m a b e n =
-        let inner : move (inside top.first (done t.found.value)) ≡ m = ap (λ y. move (inside y (done t.found.value))) a ∙ ap (λ y. move (inside o (done y))) b ∙ e in
-        ap (λ y. move y) (sym whole_top) ∙ moves_inside.same_move top.rest (inside top.first (done t.found.value)) (λ r. n (sym inner ∙ r)) ∙ ap (λ y. within (plugged top.rest) y) inner
-
-    pub stacked_popped : (table' : Operations) → Popped table table' → Stacked rule lists table'.ops table'.depth top.rest
-    stacked_popped table' p =
-        let deep = top.deep in
-        let low = p.1 in
-        let d : table.depth - 1 ≡ table'.depth = omega arith in
-        subst (λ y. Stacked rule lists y table'.depth top.rest) (sym p.0) (subst (λ y. Stacked rule lists table.ops y top.rest) d top.stacked)
+        let inner : move (inside t.first (done t.value)) ≡ m = ap (λ y. move (inside y (done t.value))) a ∙ ap (λ y. move (inside o (done y))) b ∙ e in
+        ap (λ y. move y) (sym t.whole) ∙ moves_inside.same_move t.rest (inside t.first (done t.value)) (λ r. n (sym inner ∙ r)) ∙ ap (λ y. within (plugged t.rest) y) inner
 
 not_plain : (w : Work) → ¬ (plain w ≡ rests)
 not_plain w e = let z : ◌≡◌ {A = ℕ} 0 1 = cc in omega arith
@@ -138,130 +120,126 @@ not_makes n env w e = let z : ◌≡◌ {A = ℕ} 0 1 = cc in omega arith
 not_stuck : ¬ (stuck ≡ rests)
 not_stuck e = let z : ◌≡◌ {A = ℕ} 0 1 = cc in omega arith
 
-module _ (rule : Rule) (lists : Lists Value) (r : Room) (free : ℕ) (table : Operations) where
-  -- comparing
-  pub no_left_compared : (n : ℕ) (y x : Value) (w : Work) → NotNumber x → OnTop rule lists table (CompareLeft n y) x w → move w ≡ stuck
+-- what does not fit moves nowhere
+module _ (rule : Rule) (lists : Lists Value) (ops : List Operation) (d : ℕ) where
+  pub no_left_compared : (n : ℕ) (y x : Value) (w : Work) → NotNumber x → InHand rule lists ops d (CompareLeft n y) x w → move w ≡ stuck
   no_left_compared n y x w not t =
-      let o = here rule lists table (CompareLeft n y) x w t in
-      moved rule lists table (CompareLeft n y) x w t (compare_left n o.0) t.found.value stuck o.1 refl (compare_left_stuck rule lists n o.0 x t.found.value not t.found.stands) not_stuck
+      let o = t.open_for in
+      moved rule lists ops d (CompareLeft n y) x w t (compare_left n o.0) t.value stuck o.1 refl (compare_left_stuck rule lists n o.0 x t.value not t.stands) not_stuck
 
-  pub no_right_compared : (n : ℕ) (y : Value) (i : ℤ) (w : Work) → NotNumber y → OnTop rule lists table (CompareLeft n y) (Number i) w → move w ≡ stuck
+  pub no_right_compared : (n : ℕ) (y : Value) (i : ℤ) (w : Work) → NotNumber y → InHand rule lists ops d (CompareLeft n y) (Number i) w → move w ≡ stuck
   no_right_compared n y i w not t =
-      let o = here rule lists table (CompareLeft n y) (Number i) w t in
-      moved rule lists table (CompareLeft n y) (Number i) w t (compare_left n o.0) (plain.number i) stuck o.1 (is_number rule lists i t.found.value t.found.stands)
+      let o = t.open_for in
+      moved rule lists ops d (CompareLeft n y) (Number i) w t (compare_left n o.0) (plain.number i) stuck o.1 (is_number rule lists i t.value t.stands)
       (compare_right_stuck rule lists n i y o.0 not o.2) not_stuck
 
-  pub compared : (table' : Operations) (n : ℕ) (i j : ℤ) (w : Work) → OnTop rule lists table (CompareLeft n (Number j)) (Number i) w → Popped table table' →
-      Reduces rule r lists lists free free table' (reduced.Found (Truth (le_z i j))) w
-  compared table' n i j w t p =
-      let o = here rule lists table (CompareLeft n (Number j)) (Number i) w t in
-      let rest = (top rule lists table (CompareLeft n (Number j)) (Number i) w t).rest in
+  pub no_left_added : (n : ℕ) (y x : Value) (w : Work) → NotNumber x → InHand rule lists ops d (SumLeft n y) x w → move w ≡ stuck
+  no_left_added n y x w not t =
+      let o = t.open_for in
+      moved rule lists ops d (SumLeft n y) x w t (sum_left n o.0) t.value stuck o.1 refl (sum_left_stuck rule lists n o.0 x t.value not t.stands) not_stuck
+
+  pub no_right_added : (n : ℕ) (y : Value) (i : ℤ) (w : Work) → NotNumber y → InHand rule lists ops d (SumLeft n y) (Number i) w → move w ≡ stuck
+  no_right_added n y i w not t =
+      let o = t.open_for in
+      moved rule lists ops d (SumLeft n y) (Number i) w t (sum_left n o.0) (plain.number i) stuck o.1 (is_number rule lists i t.value t.stands)
+      (sum_right_stuck rule lists n i y o.0 not o.2) not_stuck
+
+  pub sum_moves : (n : ℕ) (i j : ℤ) (w : Work) (t : InHand rule lists ops d (SumLeft n (Number j)) (Number i) w) (m : Move) →
+      added n (sum_of i j) ≡ m → ¬ (m ≡ rests) →
+      move w ≡ within (plugged t.rest) m
+  sum_moves n i j w t m e not =
+      let o = t.open_for in
+      moved rule lists ops d (SumLeft n (Number j)) (Number i) w t (sum_left n (plain.number j)) (plain.number i) m
+      (o.1 ∙ ap (λ y. sum_left n y) (is_number rule lists j o.0 o.2)) (is_number rule lists i t.value t.stands) e not
+
+  pub nothing_chosen : (n p q h : ℕ) (x : Value) (w : Work) → NotTruth x → InHand rule lists ops d (Condition n p q h) x w → move w ≡ stuck
+  nothing_chosen n p q h x w not t =
+      let o = t.open_for in
+      moved rule lists ops d (Condition n p q h) x w t (condition n o.0 o.1 o.2) t.value stuck o.3 refl
+      (condition_stuck rule lists n o.0 o.1 o.2 x t.value not t.stands) not_stuck
+
+-- what the moves lead to
+module _ (rule : Rule) (lists : Lists Value) (r : Room) (free : ℕ) (table : Operations) where
+  pub compared : (n : ℕ) (i j : ℤ) (w : Work) → InHand rule lists table.ops table.depth (CompareLeft n (Number j)) (Number i) w →
+      Reduces rule r lists lists free free table (reduced.Found (Truth (le_z i j))) w
+  compared n i j w t =
+      let o = t.open_for in
+      let rest = t.rest in
       let u = plugged rest (done (plain.truth (le_z i j))) in
-      let e : move w ≡ plain u = moved rule lists table (CompareLeft n (Number j)) (Number i) w t (compare_left n (plain.number j)) (plain.number i) (plain (done (plain.truth (le_z i j))))
-      (o.1 ∙ ap (λ y. compare_left n y) (is_number rule lists j o.0 o.2)) (is_number rule lists i t.found.value t.found.stands) refl (not_plain _) in (
+      let e : move w ≡ plain u = moved rule lists table.ops table.depth (CompareLeft n (Number j)) (Number i) w t (compare_left n (plain.number j)) (plain.number i) (plain (done (plain.truth (le_z i j))))
+      (o.1 ∙ ap (λ y. compare_left n y) (is_number rule lists j o.0 o.2)) (is_number rule lists i t.value t.stands) refl (not_plain _) in (
         u,
         subst (λ m. Moved rule r lists lists free free m u) (sym e) (refl, λ h. refl, refl),
         record {
           opens = rest;
           value = plain.truth (le_z i j);
-          stacked = stacked_popped rule lists table (CompareLeft n (Number j)) (Number i) w t table' p;
+          stacked = t.stacked;
           stands = refl;
           whole = refl;
         },
       )
 
-  -- adding
-  pub no_left_added : (n : ℕ) (y x : Value) (w : Work) → NotNumber x → OnTop rule lists table (SumLeft n y) x w → move w ≡ stuck
-  no_left_added n y x w not t =
-      let o = here rule lists table (SumLeft n y) x w t in
-      moved rule lists table (SumLeft n y) x w t (sum_left n o.0) t.found.value stuck o.1 refl (sum_left_stuck rule lists n o.0 x t.found.value not t.found.stands) not_stuck
-
-  pub no_right_added : (n : ℕ) (y : Value) (i : ℤ) (w : Work) → NotNumber y → OnTop rule lists table (SumLeft n y) (Number i) w → move w ≡ stuck
-  no_right_added n y i w not t =
-      let o = here rule lists table (SumLeft n y) (Number i) w t in
-      moved rule lists table (SumLeft n y) (Number i) w t (sum_left n o.0) (plain.number i) stuck o.1 (is_number rule lists i t.found.value t.found.stands)
-      (sum_right_stuck rule lists n i y o.0 not o.2) not_stuck
-
-  pub sum_moves : (n : ℕ) (i j : ℤ) (w : Work) (t : OnTop rule lists table (SumLeft n (Number j)) (Number i) w) (m : Move) →
-      added n (sum_of i j) ≡ m → ¬ (m ≡ rests) →
-      move w ≡ within (plugged (top rule lists table (SumLeft n (Number j)) (Number i) w t).rest) m
-  sum_moves n i j w t m e not =
-      let o = here rule lists table (SumLeft n (Number j)) (Number i) w t in
-      moved rule lists table (SumLeft n (Number j)) (Number i) w t (sum_left n (plain.number j)) (plain.number i) m
-      (o.1 ∙ ap (λ y. sum_left n y) (is_number rule lists j o.0 o.2)) (is_number rule lists i t.found.value t.found.stands) e not
-
-  pub sum_found : (table' : Operations) (n : ℕ) (i j k : ℤ) (w : Work) → sum_of i j ≡ Sum.within k → OnTop rule lists table (SumLeft n (Number j)) (Number i) w → Popped table table' →
-      Reduces rule r lists lists free free table' (reduced.Found (Number k)) w
-  sum_found table' n i j k w e t p =
-      let rest = (top rule lists table (SumLeft n (Number j)) (Number i) w t).rest in
+  pub sum_found : (n : ℕ) (i j k : ℤ) (w : Work) → sum_of i j ≡ Sum.within k → InHand rule lists table.ops table.depth (SumLeft n (Number j)) (Number i) w →
+      Reduces rule r lists lists free free table (reduced.Found (Number k)) w
+  sum_found n i j k w e t =
+      let rest = t.rest in
       let u = plugged rest (done (plain.number k)) in
-      let to_u : move w ≡ plain u = sum_moves n i j w t (plain (done (plain.number k))) (ap (λ x. added n x) e) (not_plain _) in (
+      let to_u : move w ≡ plain u = sum_moves rule lists table.ops table.depth n i j w t (plain (done (plain.number k))) (ap (λ x. added n x) e) (not_plain _) in (
         u,
         subst (λ m. Moved rule r lists lists free free m u) (sym to_u) (refl, λ h. refl, refl),
         record {
           opens = rest;
           value = plain.number k;
-          stacked = stacked_popped rule lists table (SumLeft n (Number j)) (Number i) w t table' p;
+          stacked = t.stacked;
           stands = refl;
           whole = refl;
         },
       )
 
-  pub sum_leaves : (table' : Operations) (n : ℕ) (out : OutOfRange) (i j : ℤ) (w : Work) → sum_of i j ≡ Sum.out_of_range →
-      OnTop rule lists table (SumLeft n (Number j)) (Number i) w →
-      Reduces rule r lists lists free free table' (reduced.Range n out) w
-  sum_leaves table' n out i j w e t =
-      (sum_moves n i j w t (beyond n) (ap (λ x. added n x) e) (not_beyond n), λ h. refl, refl)
+  pub sum_leaves : (n : ℕ) (out : OutOfRange) (i j : ℤ) (w : Work) → sum_of i j ≡ Sum.out_of_range →
+      InHand rule lists table.ops table.depth (SumLeft n (Number j)) (Number i) w →
+      Reduces rule r lists lists free free table (reduced.Range n out) w
+  sum_leaves n out i j w e t =
+      (sum_moves rule lists table.ops table.depth n i j w t (beyond n) (ap (λ x. added n x) e) (not_beyond n), λ h. refl, refl)
 
-  -- choosing
-  pub nothing_chosen : (n p q h : ℕ) (x : Value) (w : Work) → NotTruth x → OnTop rule lists table (Condition n p q h) x w → move w ≡ stuck
-  nothing_chosen n p q h x w not t =
-      let o = here rule lists table (Condition n p q h) x w t in
-      moved rule lists table (Condition n p q h) x w t (condition n o.0 o.1 o.2) t.found.value stuck o.3 refl
-      (condition_stuck rule lists n o.0 o.1 o.2 x t.found.value not t.found.stands) not_stuck
-
-  pub chosen_true : (table' : Operations) (n p q h : ℕ) (w : Work) → OnTop rule lists table (Condition n p q h) (Truth true) w → Popped table table' →
-      Reduces rule r lists lists free free table' (reduced.Body p h) w
-  chosen_true table' n p q h w t pop =
-      let o = here rule lists table (Condition n p q h) (Truth true) w t in
-      let rest = (top rule lists table (Condition n p q h) (Truth true) w t).rest in
+  pub chosen_true : (n p q h : ℕ) (w : Work) → InHand rule lists table.ops table.depth (Condition n p q h) (Truth true) w →
+      Reduces rule r lists lists free free table (reduced.Body p h) w
+  chosen_true n p q h w t =
+      let o = t.open_for in
+      let rest = t.rest in
       let u = plugged rest (met o.0 o.2) in
-      let e : move w ≡ plain u = moved rule lists table (Condition n p q h) (Truth true) w t (condition n o.0 o.1 o.2) (plain.truth true) (plain (met o.0 o.2))
-      o.3 (is_truth rule lists true t.found.value t.found.stands) refl (not_plain _) in (
+      let e : move w ≡ plain u = moved rule lists table.ops table.depth (Condition n p q h) (Truth true) w t (condition n o.0 o.1 o.2) (plain.truth true) (plain (met o.0 o.2))
+      o.3 (is_truth rule lists true t.value t.stands) refl (not_plain _) in (
         u,
-        weighed rule table'.ops table'.depth + nodes o.4.tree,
         subst (λ m. Moved rule r lists lists free free m u) (sym e) (refl, λ k. refl, refl),
         record {
           opens = rest;
           term = o.0;
           env = o.2;
-          stacked = stacked_popped rule lists table (Condition n p q h) (Truth true) w t table' pop;
+          stacked = t.stacked;
           at = o.4;
           environment = o.6;
           whole = refl;
-          left = omega arith;
         },
       )
 
-  pub chosen_false : (table' : Operations) (n p q h : ℕ) (w : Work) → OnTop rule lists table (Condition n p q h) (Truth false) w → Popped table table' →
-      Reduces rule r lists lists free free table' (reduced.Body q h) w
-  chosen_false table' n p q h w t pop =
-      let o = here rule lists table (Condition n p q h) (Truth false) w t in
-      let rest = (top rule lists table (Condition n p q h) (Truth false) w t).rest in
+  pub chosen_false : (n p q h : ℕ) (w : Work) → InHand rule lists table.ops table.depth (Condition n p q h) (Truth false) w →
+      Reduces rule r lists lists free free table (reduced.Body q h) w
+  chosen_false n p q h w t =
+      let o = t.open_for in
+      let rest = t.rest in
       let u = plugged rest (met o.1 o.2) in
-      let e : move w ≡ plain u = moved rule lists table (Condition n p q h) (Truth false) w t (condition n o.0 o.1 o.2) (plain.truth false) (plain (met o.1 o.2))
-      o.3 (is_truth rule lists false t.found.value t.found.stands) refl (not_plain _) in (
+      let e : move w ≡ plain u = moved rule lists table.ops table.depth (Condition n p q h) (Truth false) w t (condition n o.0 o.1 o.2) (plain.truth false) (plain (met o.1 o.2))
+      o.3 (is_truth rule lists false t.value t.stands) refl (not_plain _) in (
         u,
-        weighed rule table'.ops table'.depth + nodes o.5.tree,
         subst (λ m. Moved rule r lists lists free free m u) (sym e) (refl, λ k. refl, refl),
         record {
           opens = rest;
           term = o.1;
           env = o.2;
-          stacked = stacked_popped rule lists table (Condition n p q h) (Truth false) w t table' pop;
+          stacked = t.stacked;
           at = o.5;
           environment = o.6;
           whole = refl;
-          left = omega arith;
         },
       )

@@ -1,59 +1,74 @@
--- A value that was found is kept, and the left operand is next. Assumes nothing.
-use Rattle.std.proofs.Common.{◌≡◌, ℕ, suc, ◌-◌, ◌<◌, ◌∷◌, refl, sym, ap, ◌∙◌, subst, arith}
+-- The innermost operation is taken in hand, and an operation in hand is put back. Assumes nothing.
+use Rattle.std.proofs.Common.{◌≡◌, ℕ, suc, ◌+◌, ◌-◌, ◌<◌, List, ◌∷◌, refl, sym, ap, ◌∙◌, subst, arith}
+use Rattle.syntax.specs.declared.node.Node.{Node}
 use Rattle.store.specs.Lists.{Lists}
 use Rattle.values.specs.declared.Value.{Value}
-use Rattle.record.specs.Nodes.{node_at}
-use Rattle.calculus.specs.Term.{Term}
-use Rattle.reckoning.specs.Environments.{Env}
-use Rattle.reckoning.specs.Work.{Work, done, met}
-use Rattle.reckoning.specs.Contexts.{Open, applied, sum_left, compare_left, inside, plugged}
+use Rattle.reckoning.specs.Work.{Work, done}
+use Rattle.reckoning.specs.Contexts.{plugged}
 use Rattle.machine.specs.declared.operation.Operation.{Operation}
-use Rattle.machine.specs.declared.operation.Operation.TheVariants.{Argument, Applied, SumRight, SumLeft, CompareRight, CompareLeft}
+use Rattle.machine.specs.declared.operation.Operation.TheVariants.{Argument, Applied, Bound, SumRight, SumLeft, CompareRight, CompareLeft, Condition}
 use Rattle.machine.specs.declared.operations.Operations.{Operations}
-use Rattle.machine.specs.Opens.{OpenFor, Waits, span, weight, weighed, op_at, Topped}
-use Rattle.machine.specs.Standing.{Meets, HasFound}
-use Rattle.machine.proofs.Stacking.{Top, top_of, stacked_more, weighed_more}
+use Rattle.machine.specs.Opens.{OpenFor, IsReady, Stacked, weight, op_at, Topped}
+use Rattle.machine.specs.Standing.{HasFound, Readied, InHand}
+use Rattle.machine.proofs.Stacking.{top_of, stacked_more}
 use Rattle.machine.specs.Places.{Rule}
 
-module _ (rule : Rule) (lists : Lists Value) (table table' : Operations) (x : Value) (w : Work) (f : HasFound rule lists table x w) (some_open : 0 < table.depth) where
-  abbrev top : Top rule lists table.ops table.depth f.opens
-  top = top_of rule lists table.ops table.depth f.opens some_open f.stacked
+pub ready_weight : (ns : List Node) (op : Operation) → IsReady op → weight ns op ≡ 0
+ready_weight ns (Argument n p h) r = absurd r
+ready_weight ns (Applied n v) r = refl
+ready_weight ns (Bound n p h) r = refl
+ready_weight ns (SumRight n p h) r = absurd r
+ready_weight ns (SumLeft n v) r = refl
+ready_weight ns (CompareRight n p h) r = absurd r
+ready_weight ns (CompareLeft n v) r = refl
+ready_weight ns (Condition n p q h) r = refl
 
-  gives : (n p h : ℕ) (op op' : Operation) (o' : Open) (t : Term) (env : Env) → op_at table.ops (table.depth - 1) ≡ op →
-      Waits rule lists p h (span (node_at rule.nodes n)) t env → weight rule op ≡ span (node_at rule.nodes n) → weight rule op' ≡ 0 → OpenFor rule lists op' o' →
-      inside top.first (done f.value) ≡ inside o' (met t env) → Topped table.ops table'.ops (table.depth - 1) op' → table'.depth ≡ table.depth →
-      Meets rule lists table' p h w (weighed rule table.ops table.depth)
-  gives n p h op op' o' t env is waits heavy light s e topped same =
-      let deep : table'.depth ≡ suc (table.depth - 1) = same ∙ top.deep in
-      let before : weight rule (op_at table.ops (table.depth - 1)) ≡ weight rule op = ap (λ y. weight rule y) is in
-      let all = top.weight_is in
-      let after = weighed_more rule table.ops table'.ops (table.depth - 1) table'.depth op' topped deep in
-      let sized = waits.sized in
+-- an operation whose left operand does not wait
+pub is_ready : (op : Operation) → ((n p h : ℕ) → op ≡ Argument n p h → ⊥) → ((n p h : ℕ) → op ≡ SumRight n p h → ⊥) → ((n p h : ℕ) → op ≡ CompareRight n p h → ⊥) → IsReady op
+is_ready (Argument n p h) not_argument not_sum not_compare = absurd (not_argument n p h refl)
+is_ready (Applied n v) not_argument not_sum not_compare = tt
+is_ready (Bound n p h) not_argument not_sum not_compare = tt
+is_ready (SumRight n p h) not_argument not_sum not_compare = absurd (not_sum n p h refl)
+is_ready (SumLeft n v) not_argument not_sum not_compare = tt
+is_ready (CompareRight n p h) not_argument not_sum not_compare = absurd (not_compare n p h refl)
+is_ready (CompareLeft n v) not_argument not_sum not_compare = tt
+is_ready (Condition n p q h) not_argument not_sum not_compare = tt
+
+module _ (rule : Rule) (lists : Lists Value) where
+  pub taken : (table : Operations) (x : Value) (w : Work) (op : Operation) (d : ℕ) → 0 < table.depth → d + 1 ≡ table.depth →
+      op_at table.ops (table.depth - 1) ≡ op → HasFound rule lists table x w → InHand rule lists table.ops d op x w
+  taken table x w op d some_open deep is f =
+      let t = top_of rule lists table.ops table.depth f.opens some_open f.stacked in
+      let e : table.depth - 1 ≡ d = omega arith in
       record {
-        opens = o' ∷ top.rest;
-        term = t;
-        env = env;
-        stacked = stacked_more rule lists table.ops table'.ops (table.depth - 1) table'.depth op' o' top.rest topped deep s top.stacked;
-        at = waits.at;
-        environment = waits.environment;
-        whole = ap (λ y. plugged top.rest y) (sym e) ∙ ap (λ os. plugged os (done f.value)) (sym top.is) ∙ f.whole;
-        left = omega arith;
+        first = t.first;
+        rest = t.rest;
+        value = f.value;
+        open_for = subst (λ y. OpenFor rule lists y t.first) is t.open_for;
+        stacked = subst (λ i. Stacked rule lists table.ops i t.rest) e t.stacked;
+        stands = f.stands;
+        whole = ap (λ os. plugged os (done f.value)) (sym t.is) ∙ f.whole;
       }
 
-  pub gives_argument : (n p h : ℕ) → op_at table.ops (table.depth - 1) ≡ Argument n p h → Topped table.ops table'.ops (table.depth - 1) (Applied n x) → table'.depth ≡ table.depth →
-      Meets rule lists table' p h w (weighed rule table.ops table.depth)
-  gives_argument n p h is topped same =
-      let b = subst (λ y. OpenFor rule lists y top.first) is top.open_for in
-      gives n p h (Argument n p h) (Applied n x) (applied n f.value) b.0 b.1 is b.3 refl refl (f.value, refl, f.stands) (ap (λ o. inside o (done f.value)) b.2) topped same
+  -- the same, from a table that it was taken out of
+  pub popped : (table table' : Operations) (x : Value) (w : Work) (op : Operation) → 0 < table.depth → table'.ops ≡ table.ops → table'.depth + 1 ≡ table.depth →
+      op_at table.ops (table.depth - 1) ≡ op → HasFound rule lists table x w → InHand rule lists table'.ops table'.depth op x w
+  popped table table' x w op some_open same deep is f =
+      subst (λ y. InHand rule lists y table'.depth op x w) (sym same) (taken table x w op table'.depth some_open deep is f)
 
-  pub gives_sum : (n p h : ℕ) → op_at table.ops (table.depth - 1) ≡ SumRight n p h → Topped table.ops table'.ops (table.depth - 1) (SumLeft n x) → table'.depth ≡ table.depth →
-      Meets rule lists table' p h w (weighed rule table.ops table.depth)
-  gives_sum n p h is topped same =
-      let b = subst (λ y. OpenFor rule lists y top.first) is top.open_for in
-      gives n p h (SumRight n p h) (SumLeft n x) (sum_left n f.value) b.0 b.1 is b.3 refl refl (f.value, refl, f.stands) (ap (λ o. inside o (done f.value)) b.2) topped same
-
-  pub gives_compare : (n p h : ℕ) → op_at table.ops (table.depth - 1) ≡ CompareRight n p h → Topped table.ops table'.ops (table.depth - 1) (CompareLeft n x) → table'.depth ≡ table.depth →
-      Meets rule lists table' p h w (weighed rule table.ops table.depth)
-  gives_compare n p h is topped same =
-      let b = subst (λ y. OpenFor rule lists y top.first) is top.open_for in
-      gives n p h (CompareRight n p h) (CompareLeft n x) (compare_left n f.value) b.0 b.1 is b.3 refl refl (f.value, refl, f.stands) (ap (λ o. inside o (done f.value)) b.2) topped same
+  pub put_back : (ops : List Operation) (d : ℕ) (table' : Operations) (op : Operation) (x : Value) (w : Work) → IsReady op → Topped ops table'.ops d op → table'.depth ≡ d + 1 →
+      InHand rule lists ops d op x w → Readied rule lists table' x w
+  put_back ops d table' op x w ready topped deep f =
+      let n : table'.depth ≡ suc d = omega arith in
+      let last : d ≡ table'.depth - 1 = omega arith in
+      record {
+        some_open = omega arith;
+        ready = subst (λ i. IsReady (op_at table'.ops i)) last (subst IsReady (sym topped.top) ready);
+        found = record {
+          opens = f.first ∷ f.rest;
+          value = f.value;
+          stacked = stacked_more rule lists ops table'.ops d table'.depth op f.first f.rest topped n f.open_for f.stacked;
+          stands = f.stands;
+          whole = f.whole;
+        };
+      }

@@ -1,5 +1,6 @@
 -- Tables of operations that grow and shrink. Assumes nothing.
 use Rattle.std.proofs.Common.{◌≡◌, ℕ, zero, suc, ◌+◌, ◌-◌, ◌<◌, List, [], ◌∷◌, length, refl, sym, ap, subst, arith}
+use Rattle.syntax.specs.declared.node.Node.{Node}
 use Rattle.store.specs.Lists.{Lists}
 use Rattle.values.specs.declared.Value.{Value}
 use Rattle.reckoning.specs.Contexts.{Open}
@@ -15,11 +16,11 @@ stacked_same rule lists ops ops' (suc d) [] same s = s
 stacked_same rule lists ops ops' (suc d) (o ∷ os) same s =
     (subst (λ x. OpenFor rule lists x o) (sym (same d (omega arith))) s.0, stacked_same rule lists ops ops' d os (λ i h. same i (omega arith)) s.1)
 
-pub weighed_same : (rule : Rule) (ops ops' : List Operation) (d : ℕ) → ((i : ℕ) → i < d → op_at ops' i ≡ op_at ops i) → weighed rule ops' d ≡ weighed rule ops d
-weighed_same rule ops ops' zero same = refl
-weighed_same rule ops ops' (suc d) same =
-    let here : weight rule (op_at ops' d) ≡ weight rule (op_at ops d) = ap (λ x. weight rule x) (same d (omega arith)) in
-    let below = weighed_same rule ops ops' d (λ i h. same i (omega arith)) in
+pub weighed_same : (ns : List Node) (ops ops' : List Operation) (d : ℕ) → ((i : ℕ) → i < d → op_at ops' i ≡ op_at ops i) → weighed ns ops' d ≡ weighed ns ops d
+weighed_same ns ops ops' zero same = refl
+weighed_same ns ops ops' (suc d) same =
+    let here : weight ns (op_at ops' d) ≡ weight ns (op_at ops d) = ap (λ x. weight ns x) (same d (omega arith)) in
+    let below = weighed_same ns ops ops' d (λ i h. same i (omega arith)) in
     omega arith
 
 -- an operation more
@@ -29,11 +30,11 @@ stacked_more rule lists ops ops' d e op o os t n h s =
     subst (λ x. Stacked rule lists ops' x (o ∷ os)) (sym n)
     (subst (λ x. OpenFor rule lists x o) (sym t.top) h, stacked_same rule lists ops ops' d os t.below s)
 
-pub weighed_more : (rule : Rule) (ops ops' : List Operation) (d e : ℕ) (op : Operation) → Topped ops ops' d op → e ≡ suc d → weighed rule ops' e ≡ weight rule op + weighed rule ops d
-weighed_more rule ops ops' d e op t n =
-    let last : weighed rule ops' e ≡ weighed rule ops' (suc d) = ap (λ x. weighed rule ops' x) n in
-    let here : weight rule (op_at ops' d) ≡ weight rule op = ap (λ x. weight rule x) t.top in
-    let below = weighed_same rule ops ops' d t.below in
+pub weighed_more : (ns : List Node) (ops ops' : List Operation) (d e : ℕ) (op : Operation) → Topped ops ops' d op → e ≡ suc d → weighed ns ops' e ≡ weight ns op + weighed ns ops d
+weighed_more ns ops ops' d e op t n =
+    let last : weighed ns ops' e ≡ weighed ns ops' (suc d) = ap (λ x. weighed ns ops' x) n in
+    let here : weight ns (op_at ops' d) ≡ weight ns op = ap (λ x. weight ns x) t.top in
+    let below = weighed_same ns ops ops' d t.below in
     omega arith
 
 pub stacked_length : (rule : Rule) (lists : Lists Value) (ops : List Operation) (d : ℕ) (os : List Open) → Stacked rule lists ops d os → length os ≡ d
@@ -50,7 +51,7 @@ pub record Top (rule : Rule) (lists : Lists Value) (ops : List Operation) (d : �
   pub deep : d ≡ suc (d - 1)
   pub open_for : OpenFor rule lists (op_at ops (d - 1)) first
   pub stacked : Stacked rule lists ops (d - 1) rest
-  pub weight_is : weighed rule ops d ≡ weight rule (op_at ops (d - 1)) + weighed rule ops (d - 1)
+  pub weight_is : weighed rule.nodes ops d ≡ weight rule.nodes (op_at ops (d - 1)) + weighed rule.nodes ops (d - 1)
 
 pub top_of : (rule : Rule) (lists : Lists Value) (ops : List Operation) (d : ℕ) (os : List Open) → 0 < d → Stacked rule lists ops d os → Top rule lists ops d os
 top_of rule lists ops zero os h s = absurd (omega arith)
@@ -64,5 +65,5 @@ top_of rule lists ops (suc d) (o ∷ os) h s =
       deep = omega arith;
       open_for = subst (λ i. OpenFor rule lists (op_at ops i) o) e s.0;
       stacked = subst (λ i. Stacked rule lists ops i os) e s.1;
-      weight_is = ap (λ i. weight rule (op_at ops i) + weighed rule ops i) e;
+      weight_is = ap (λ i. weight rule.nodes (op_at ops i) + weighed rule.nodes ops i) e;
     }

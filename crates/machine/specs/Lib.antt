@@ -3,5 +3,7 @@ pub mod Handles
 pub mod Opens
 pub mod Leaves
 pub mod Standing
+pub mod Extents
 pub mod Reducing
+pub mod Going
 pub mod Running

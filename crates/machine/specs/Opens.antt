@@ -16,6 +16,19 @@ use Rattle.machine.specs.declared.operation.Operation.TheVariants.{Argument, App
 use Rattle.machine.specs.Places.{Rule, At}
 use Rattle.machine.specs.Handles.{StandsFor, IsListOf}
 
+-- a node that is no leaf
+abbrev pub IsOperation : Node → Type 0
+IsOperation (node.Number k) = ⊥
+IsOperation (node.Truth b) = ⊥
+IsOperation (node.Variable d) = ⊥
+IsOperation (node.Reading j) = ⊥
+IsOperation (node.Function b) = ⊥
+IsOperation (node.Application f a) = Unit {0}
+IsOperation (node.LetIn e b) = Unit {0}
+IsOperation (node.Sum l r) = Unit {0}
+IsOperation (node.AtMost l r) = Unit {0}
+IsOperation (node.IfElse c t e) = Unit {0}
+
 -- how many nodes the left operand of a node has, by the places of its operands
 abbrev pub span : Node → ℕ
 span (node.Number k) = 0
@@ -30,15 +43,15 @@ span (node.AtMost l r) = r - l
 span (node.IfElse c t e) = 0
 
 -- how many nodes of the left operand wait in an operation, until its right operand is found
-abbrev pub weight : Rule → Operation → ℕ
-weight rule (Argument n p h) = span (node_at rule.nodes n)
-weight rule (Applied n v) = 0
-weight rule (Bound n p h) = 0
-weight rule (SumRight n p h) = span (node_at rule.nodes n)
-weight rule (SumLeft n v) = 0
-weight rule (CompareRight n p h) = span (node_at rule.nodes n)
-weight rule (CompareLeft n v) = 0
-weight rule (Condition n p q h) = 0
+abbrev pub weight : List Node → Operation → ℕ
+weight ns (Argument n p h) = span (node_at ns n)
+weight ns (Applied n v) = 0
+weight ns (Bound n p h) = 0
+weight ns (SumRight n p h) = span (node_at ns n)
+weight ns (SumLeft n v) = 0
+weight ns (CompareRight n p h) = span (node_at ns n)
+weight ns (CompareLeft n v) = 0
+weight ns (Condition n p q h) = 0
 
 -- a left operand that waits at place p, of so many nodes, in the environment of handle h
 pub record Waits (rule : Rule) (lists : Lists Value) (p h wide : ℕ) (t : Term) (env : Env) : Type 0 where
@@ -68,9 +81,9 @@ Stacked rule lists ops (suc d) [] = ⊥
 Stacked rule lists ops (suc d) (o ∷ os) = OpenFor rule lists (op_at ops d) o × Stacked rule lists ops d os
 
 -- how many nodes of left operands wait in the first d operations
-abbrev pub weighed : Rule → List Operation → ℕ → ℕ
-weighed rule ops zero = 0
-weighed rule ops (suc d) = weight rule (op_at ops d) + weighed rule ops d
+abbrev pub weighed : List Node → List Operation → ℕ → ℕ
+weighed ns ops zero = 0
+weighed ns ops (suc d) = weight ns (op_at ops d) + weighed ns ops d
 
 -- an operation was written at place d, and those below stay
 pub record Topped (ops ops' : List Operation) (d : ℕ) (op : Operation) : Type 0 where

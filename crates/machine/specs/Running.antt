@@ -1,5 +1,5 @@
 -- Where a run stands. Assumes nothing.
-use Rattle.std.specs.Prelude.{◌≡◌, ◌≢◌, ℕ, suc, ◌≤◌, ℤ, List, length, None, Result, Ok, Err}
+use Rattle.std.specs.Prelude.{◌≡◌, ◌≢◌, ℕ, ◌≤◌, ℤ, List, length, None, Result, Ok, Err}
 use Rattle.std.proofs.Math.Option.{none}
 use Rattle.syntax.specs.Tree.{Tree, nodes}
 use Rattle.record.specs.Nodes.{Holds}
@@ -11,9 +11,7 @@ use Rattle.arithmetic.specs.declared.OutOfRange.{OutOfRange}
 use Rattle.arithmetic.specs.Sums.{as_result}
 use Rattle.calculus.specs.Length.{Answer}
 use Rattle.reckoning.specs.Environments.{base}
-use Rattle.reckoning.specs.Work.{Work}
 use Rattle.reckoning.specs.Moves.{stuck, move}
-use Rattle.reckoning.specs.Open.{one_too_many}
 use Rattle.reckoning.specs.Room.{Room, free}
 use Rattle.reckoning.specs.Reckoning.{Reckoned, shortage, ahead, state, granted, steps}
 use Rattle.reckoning.specs.Reckoning as plain
@@ -22,9 +20,7 @@ use Rattle.machine.specs.declared.steps.State.{State}
 use Rattle.machine.specs.declared.steps.State.TheVariants.{Waiting, Done, Range, NoStore, NoStack}
 use Rattle.machine.specs.Handles.{IsListOf, Root, Owned}
 use Rattle.machine.specs.declared.operations.Operations.{Operations}
-use Rattle.machine.specs.declared.settle.Next.{Next}
-use Rattle.machine.specs.declared.steps.Gone.{Gone}
-use Rattle.machine.specs.declared.steps.Gone.TheVariants.{On, Ended}
+use Rattle.machine.specs.declared.next.Next.{Next}
 use Rattle.machine.specs.Standing.{Readied, Follows}
 use Rattle.machine.specs.Places.{Rule}
 
@@ -53,11 +49,6 @@ sum_ahead n (value.Number j) (value.Function m h) = Waiting
 sum_ahead n (value.Truth b) x = Waiting
 sum_ahead n (value.Function m h) x = Waiting
 
--- The whole work w is told of as far as it was not refused room, and while it waits, its next reduction is known.
-pub record Rests (rule : Rule) (lists : Lists Value) (run : Machine) (w : Work) : Type 0 where
-  pub in_state : state_of run.state ≡ shortage none (one_too_many w) (ahead w (move w))
-  pub ready : run.state ≡ Waiting → Readied rule lists run.table run.focus w
-
 -- The run stands where s is: any s, however it came there.
 pub record StandsAt (rule : Rule) (lists : Lists Value) (room : Room) (left : ℕ) (root : Root) (run : Machine) (s : Reckoned) : Type 0 where
   pub in_state : state_of run.state ≡ state s
@@ -69,6 +60,10 @@ pub record StandsAt (rule : Rule) (lists : Lists Value) (room : Room) (left : �
 -- nothing is ever stuck, from s on
 abbrev pub NeverStuck : Room → Reckoned → Type 0
 NeverStuck room s = (n : ℕ) → move (steps room n s).work ≢ stuck
+
+-- nothing is stuck within so many granted steps
+abbrev pub NotStuckFor : Room → ℕ → Reckoned → Type 0
+NotStuckFor room k s = (n : ℕ) → n ≤ k → move (steps room n s).work ≢ stuck
 
 -- The table holds this tree, the list of the handle is these readings, no other handle has a list, and all room is free.
 pub record Begins (rule : Rule) (lists : Lists Value) (whole left : ℕ) (h : ℕ) (t : Tree) (readings : List ℤ) : Type 0 where
@@ -89,10 +84,3 @@ pub record OnTheWay (rule : Rule) (lists : Lists Value) (room : Room) (left : �
   pub lists_made : Owned rule lists root s.made
   pub not_refused : s.refused ≡ none
   pub follows : Follows rule lists table next s.work
-
--- After a granted step: one reduction more, or each run that is in this state stands there, with as many reductions.
-abbrev pub Leads : Rule → Lists Value → Room → ℕ → Root → Operations → Gone → Reckoned → Type 0
-Leads rule lists room left root table (On next) s =
-    ((granted room s).count ≡ suc s.count) × OnTheWay rule lists room left root table next (granted room s)
-Leads rule lists room left root table (Ended st) s =
-    (run : Machine) → run.state ≡ st → run.count ≡ s.count → (st ≢ Waiting) × StandsAt rule lists room left root run (granted room s)

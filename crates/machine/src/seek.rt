@@ -1,40 +1,28 @@
 //! Seeking a value downwards.
-ghost use Rattle.std.specs.Prelude.{◌≡◌, ◌≢◌, ◌<◌, ℕ, length};
+ghost use Rattle.std.specs.Prelude.{◌≡◌, ◌≢◌, ◌<◌, length, None};
 ghost use Rattle.reckoning.specs.Work.{Work};
 ghost use Rattle.reckoning.specs.Moves.{move, stuck};
 ghost use Rattle.record.specs.Nodes.{node_at};
 ghost use Rattle.calculus.specs.Term.{Term};
 ghost use Rattle.reckoning.specs.Environments.{Env, size};
-ghost use Rattle.syntax.specs.declared.node.Node.TheVariants.{Application, LetIn, Sum, AtMost, IfElse};
 ghost use Rattle.machine.specs.Places.{At, rule_of};
 ghost use Rattle.machine.specs.Handles.{IsListOf};
 ghost use Rattle.machine.specs.Leaves.{AtOnce, GoesOn};
-ghost use Rattle.machine.specs.Standing.{Meets, Enters, Finds, Deeper};
+ghost use Rattle.machine.specs.Opens.{IsOperation};
+ghost use Rattle.machine.specs.Standing.{Meets};
+ghost use Rattle.machine.specs.Reducing.{room_of};
+ghost use Rattle.machine.specs.Extents.{to_meet};
+ghost use Rattle.machine.specs.Going.{Goes, Lessens};
 ghost use Rattle.values.specs.declared.Value.TheVariants.{Number};
 
+use crate::next::{Gone, Next};
+use crate::operand::{open, operand};
 use crate::operation::Operation;
 use crate::operations::{MOST_OPEN, Operations};
+use crate::steps::State;
 use readings::environments::Environments;
 use syntax::node::Node;
 use values::Value;
-
-/// Where a node leads.
-#[derive(Clone, Copy)]
-pub enum Entered {
-    /// It has this value.
-    Value(Value),
-    /// Its operation was opened, and the node at this place is next, in the same environment.
-    Child(u16),
-    /// It would be one open operation too many.
-    NoStack(u16),
-}
-
-/// Where seeking a value leads.
-#[derive(Clone, Copy)]
-pub enum Sought {
-    Value(Value),
-    NoStack(u16),
-}
 
 /// The node at a place.
 #[inline(always)]
@@ -55,9 +43,15 @@ pub fn number_value(number: i32) -> Value
 
 /// The value of a node that is worked out at once: of a number, a truth, a binder, a reading or a function.
 #[inline(always)]
-fn leaf<W: Environments>(nodes: &[Node], store: &W, place: u16, environment: u32) -> Option<Value>
+pub fn leaf<W: Environments>(
+    nodes: &[Node],
+    store: &W,
+    place: u16,
+    environment: u32,
+) -> Option<Value>
     requires { GoesOn (rule_of nodes.now (W.Store.base store.now)) (W.Store.lists store.now) place environment }
-    ensures { (t : Term) (env : Env) → At (rule_of nodes.now (W.Store.base store.now)) (size env) place t → IsListOf (rule_of nodes.now (W.Store.base store.now)) (W.Store.lists store.now) environment env → AtOnce (rule_of nodes.now (W.Store.base store.now)) (W.Store.lists store.now) t env result }
+    ensures value { (t : Term) (env : Env) → At (rule_of nodes.now (W.Store.base store.now)) (size env) place t → IsListOf (rule_of nodes.now (W.Store.base store.now)) (W.Store.lists store.now) environment env → AtOnce (rule_of nodes.now (W.Store.base store.now)) (W.Store.lists store.now) t env result }
+    ensures operation { result ≡ None → IsOperation (node_at nodes.now place) }
 {
     match node(nodes, place) {
         Node::Number(number) => Some(number_value(number)),
@@ -78,243 +72,124 @@ fn leaf<W: Environments>(nodes: &[Node], store: &W, place: u16, environment: u32
     }
 }
 
-/// Enters an application: the argument first.
+/// Enters an operation: the right operand of an application, a sum or a comparison first. An operand that is a leaf is
+/// worked out at once, and the operation stays in hand.
 #[inline(always)]
-fn enter_application<W: Environments>(
+fn enter_operation<W: Environments>(
     nodes: &[Node],
-    store: &W,
+    store: &mut W,
     table: &mut Operations,
     place: u16,
-    function: u16,
-    argument: u16,
     environment: u32,
-) -> Entered
-    requires node { Application function argument ≡ node_at nodes.now place }
-    requires meets { (w : Work) × (k : ℕ) × Meets (rule_of nodes.now (W.Store.base store.now)) (W.Store.lists store.now) table.old place environment w k × (move w ≢ stuck) }
-    ensures deeper { Deeper place result }
-    ensures enters { (w : Work) (k : ℕ) → Meets (rule_of nodes.now (W.Store.base store.now)) (W.Store.lists store.now) table.old place environment w k → Enters (rule_of nodes.now (W.Store.base store.now)) (W.Store.lists store.now) table.new environment result w k }
+    left: u32,
+) -> Gone
+    requires room { table.old.depth < 256 }
+    requires operation { IsOperation (node_at nodes.now place) }
+    requires meets { (w : Work) × Meets (rule_of nodes.now (W.Store.base store.old)) (W.Store.lists store.old) table.old place environment w × (move w ≢ stuck) }
+    ensures goes { (w : Work) → Meets (rule_of nodes.now (W.Store.base store.old)) (W.Store.lists store.old) table.old place environment w → Goes (rule_of nodes.now (W.Store.base store.old)) (room_of (W.Store.whole store.old) (W.Store.cost store.old)) (W.Store.lists store.old) (W.Store.lists store.new) (W.Store.room store.old) (W.Store.room store.new) left table.new result w }
+    ensures lessens { Lessens nodes.now table.new result (to_meet nodes.now table.old place) }
+    ensures still { left ≡ 0 → store.new ≡ store.old }
+    ensures base { W.Store.base store.new ≡ W.Store.base store.old }
+    ensures whole { W.Store.whole store.new ≡ W.Store.whole store.old }
+    ensures cost { W.Store.cost store.new ≡ W.Store.cost store.old }
 {
-    if table.depth == MOST_OPEN {
-        return Entered::NoStack(place);
-    }
-    match leaf(nodes, store, argument, environment) {
-        Some(value) => {
-            table.push(Operation::Applied {
+    match node(nodes, place) {
+        Node::Application(function, argument) => match leaf(nodes, store, argument, environment) {
+            Some(argument) => {
+                let op = Operation::Applied {
+                    node: place,
+                    argument,
+                };
+                operand(nodes, store, table, op, function, environment, left)
+            }
+            None => {
+                let op = Operation::Argument {
+                    node: place,
+                    function,
+                    environment,
+                };
+                open(table, op, argument, environment)
+            }
+        },
+        Node::LetIn(bound, body) => {
+            let op = Operation::Bound {
                 node: place,
-                argument: value,
-            });
-            Entered::Child(function)
-        }
-        None => {
-            table.push(Operation::Argument {
-                node: place,
-                function,
+                body,
                 environment,
-            });
-            Entered::Child(argument)
+            };
+            operand(nodes, store, table, op, bound, environment, left)
         }
-    }
-}
-
-/// Enters a sum: the right operand first.
-#[inline(always)]
-fn enter_sum<W: Environments>(
-    nodes: &[Node],
-    store: &W,
-    table: &mut Operations,
-    place: u16,
-    left: u16,
-    right: u16,
-    environment: u32,
-) -> Entered
-    requires node { Sum left right ≡ node_at nodes.now place }
-    requires meets { (w : Work) × (k : ℕ) × Meets (rule_of nodes.now (W.Store.base store.now)) (W.Store.lists store.now) table.old place environment w k × (move w ≢ stuck) }
-    ensures deeper { Deeper place result }
-    ensures enters { (w : Work) (k : ℕ) → Meets (rule_of nodes.now (W.Store.base store.now)) (W.Store.lists store.now) table.old place environment w k → Enters (rule_of nodes.now (W.Store.base store.now)) (W.Store.lists store.now) table.new environment result w k }
-{
-    if table.depth == MOST_OPEN {
-        return Entered::NoStack(place);
-    }
-    match leaf(nodes, store, right, environment) {
-        Some(value) => {
-            table.push(Operation::SumLeft {
+        Node::Sum(l, r) => match leaf(nodes, store, r, environment) {
+            Some(right) => {
+                let op = Operation::SumLeft { node: place, right };
+                operand(nodes, store, table, op, l, environment, left)
+            }
+            None => {
+                let op = Operation::SumRight {
+                    node: place,
+                    left: l,
+                    environment,
+                };
+                open(table, op, r, environment)
+            }
+        },
+        Node::AtMost(l, r) => match leaf(nodes, store, r, environment) {
+            Some(right) => {
+                let op = Operation::CompareLeft { node: place, right };
+                operand(nodes, store, table, op, l, environment, left)
+            }
+            None => {
+                let op = Operation::CompareRight {
+                    node: place,
+                    left: l,
+                    environment,
+                };
+                open(table, op, r, environment)
+            }
+        },
+        Node::IfElse(condition, then, otherwise) => {
+            let op = Operation::Condition {
                 node: place,
-                right: value,
-            });
-            Entered::Child(left)
-        }
-        None => {
-            table.push(Operation::SumRight {
-                node: place,
-                left,
+                then,
+                otherwise,
                 environment,
-            });
-            Entered::Child(right)
+            };
+            operand(nodes, store, table, op, condition, environment, left)
         }
+        _ => unreachable!(),
     }
 }
 
-/// Enters a comparison: the right operand first.
-#[inline(always)]
-fn enter_comparison<W: Environments>(
-    nodes: &[Node],
-    store: &W,
-    table: &mut Operations,
-    place: u16,
-    left: u16,
-    right: u16,
-    environment: u32,
-) -> Entered
-    requires node { AtMost left right ≡ node_at nodes.now place }
-    requires meets { (w : Work) × (k : ℕ) × Meets (rule_of nodes.now (W.Store.base store.now)) (W.Store.lists store.now) table.old place environment w k × (move w ≢ stuck) }
-    ensures deeper { Deeper place result }
-    ensures enters { (w : Work) (k : ℕ) → Meets (rule_of nodes.now (W.Store.base store.now)) (W.Store.lists store.now) table.old place environment w k → Enters (rule_of nodes.now (W.Store.base store.now)) (W.Store.lists store.now) table.new environment result w k }
-{
-    if table.depth == MOST_OPEN {
-        return Entered::NoStack(place);
-    }
-    match leaf(nodes, store, right, environment) {
-        Some(value) => {
-            table.push(Operation::CompareLeft {
-                node: place,
-                right: value,
-            });
-            Entered::Child(left)
-        }
-        None => {
-            table.push(Operation::CompareRight {
-                node: place,
-                left,
-                environment,
-            });
-            Entered::Child(right)
-        }
-    }
-}
-
-/// Enters a let: what it binds first.
-#[inline(always)]
-fn enter_let<W: Environments>(
-    nodes: &[Node],
-    store: &W,
-    table: &mut Operations,
-    place: u16,
-    bound: u16,
-    body: u16,
-    environment: u32,
-) -> Entered
-    requires node { LetIn bound body ≡ node_at nodes.now place }
-    requires meets { (w : Work) × (k : ℕ) × Meets (rule_of nodes.now (W.Store.base store.now)) (W.Store.lists store.now) table.old place environment w k × (move w ≢ stuck) }
-    ensures deeper { Deeper place result }
-    ensures enters { (w : Work) (k : ℕ) → Meets (rule_of nodes.now (W.Store.base store.now)) (W.Store.lists store.now) table.old place environment w k → Enters (rule_of nodes.now (W.Store.base store.now)) (W.Store.lists store.now) table.new environment result w k }
-{
-    if table.depth == MOST_OPEN {
-        return Entered::NoStack(place);
-    }
-    table.push(Operation::Bound {
-        node: place,
-        body,
-        environment,
-    });
-    Entered::Child(bound)
-}
-
-/// Enters an if: the condition first.
-#[inline(always)]
-fn enter_if<W: Environments>(
-    nodes: &[Node],
-    store: &W,
-    table: &mut Operations,
-    place: u16,
-    condition: u16,
-    then: u16,
-    otherwise: u16,
-    environment: u32,
-) -> Entered
-    requires node { IfElse condition then otherwise ≡ node_at nodes.now place }
-    requires meets { (w : Work) × (k : ℕ) × Meets (rule_of nodes.now (W.Store.base store.now)) (W.Store.lists store.now) table.old place environment w k × (move w ≢ stuck) }
-    ensures deeper { Deeper place result }
-    ensures enters { (w : Work) (k : ℕ) → Meets (rule_of nodes.now (W.Store.base store.now)) (W.Store.lists store.now) table.old place environment w k → Enters (rule_of nodes.now (W.Store.base store.now)) (W.Store.lists store.now) table.new environment result w k }
-{
-    if table.depth == MOST_OPEN {
-        return Entered::NoStack(place);
-    }
-    table.push(Operation::Condition {
-        node: place,
-        then,
-        otherwise,
-        environment,
-    });
-    Entered::Child(condition)
-}
-
-/// Enters a node: it has a value, or its operation is opened. A right operand that is a leaf is worked out at once.
+/// Enters a node: a leaf has a value, an operation is opened, or reduced at once where its operands are leaves.
 #[inline(always)]
 pub fn enter<W: Environments>(
     nodes: &[Node],
-    store: &W,
+    store: &mut W,
     table: &mut Operations,
     place: u16,
     environment: u32,
-) -> Entered
-    requires { (w : Work) × (k : ℕ) × Meets (rule_of nodes.now (W.Store.base store.now)) (W.Store.lists store.now) table.old place environment w k × (move w ≢ stuck) }
-    ensures deeper { Deeper place result }
-    ensures enters { (w : Work) (k : ℕ) → Meets (rule_of nodes.now (W.Store.base store.now)) (W.Store.lists store.now) table.old place environment w k → Enters (rule_of nodes.now (W.Store.base store.now)) (W.Store.lists store.now) table.new environment result w k }
+    left: u32,
+) -> Gone
+    requires meets { (w : Work) × Meets (rule_of nodes.now (W.Store.base store.old)) (W.Store.lists store.old) table.old place environment w × (move w ≢ stuck) }
+    ensures goes { (w : Work) → Meets (rule_of nodes.now (W.Store.base store.old)) (W.Store.lists store.old) table.old place environment w → Goes (rule_of nodes.now (W.Store.base store.old)) (room_of (W.Store.whole store.old) (W.Store.cost store.old)) (W.Store.lists store.old) (W.Store.lists store.new) (W.Store.room store.old) (W.Store.room store.new) left table.new result w }
+    ensures lessens { Lessens nodes.now table.new result (to_meet nodes.now table.old place) }
+    ensures still { left ≡ 0 → store.new ≡ store.old }
+    ensures base { W.Store.base store.new ≡ W.Store.base store.old }
+    ensures whole { W.Store.whole store.new ≡ W.Store.whole store.old }
+    ensures cost { W.Store.cost store.new ≡ W.Store.cost store.old }
 {
     match node(nodes, place) {
-        Node::Number(number) => Entered::Value(number_value(number)),
-        Node::Truth(truth) => Entered::Value(Value::Truth(truth)),
-        Node::Variable(distance) => match store.binder(environment, distance as u32) {
-            Ok(value) => Entered::Value(value),
-            Err(_) => unreachable!(),
-        },
-        Node::Reading(reading) => match store.reading(reading as u32) {
-            Some(value) => Entered::Value(value),
-            None => unreachable!(),
-        },
-        Node::Function(_) => Entered::Value(Value::Function {
-            node: place,
-            environment,
-        }),
-        Node::Application(function, argument) => {
-            enter_application(nodes, store, table, place, function, argument, environment)
+        Node::Number(_)
+        | Node::Truth(_)
+        | Node::Variable(_)
+        | Node::Reading(_)
+        | Node::Function(_) => {
+            match leaf(nodes, store, place, environment) {
+                Some(value) => Gone::Nearer(Next::Value(value)),
+                None => unreachable!(),
+            }
         }
-        Node::LetIn(bound, body) => enter_let(nodes, store, table, place, bound, body, environment),
-        Node::Sum(left, right) => enter_sum(nodes, store, table, place, left, right, environment),
-        Node::AtMost(left, right) => {
-            enter_comparison(nodes, store, table, place, left, right, environment)
-        }
-        Node::IfElse(condition, then, otherwise) => enter_if(
-            nodes,
-            store,
-            table,
-            place,
-            condition,
-            then,
-            otherwise,
-            environment,
-        ),
-    }
-}
-
-/// Seeks a value downwards, from a node on.
-#[inline(always)]
-pub fn seek<W: Environments>(
-    nodes: &[Node],
-    store: &W,
-    table: &mut Operations,
-    place: u16,
-    environment: u32,
-) -> Sought
-    requires { (w : Work) × (k : ℕ) × Meets (rule_of nodes.now (W.Store.base store.now)) (W.Store.lists store.now) table.old place environment w k × (move w ≢ stuck) }
-    ensures { (w : Work) (k : ℕ) → Meets (rule_of nodes.now (W.Store.base store.now)) (W.Store.lists store.now) table.old place environment w k → Finds (rule_of nodes.now (W.Store.base store.now)) (W.Store.lists store.now) table.new result w k }
-{
-    let mut at = place;
-    loop {
-        match enter(nodes, store, table, at, environment) {
-            Entered::Value(value) => return Sought::Value(value),
-            Entered::Child(child) => at = child,
-            Entered::NoStack(node) => return Sought::NoStack(node),
-        }
+        _ if table.depth == MOST_OPEN => Gone::Ended(State::NoStack(place)),
+        _ => enter_operation(nodes, store, table, place, environment, left),
     }
 }

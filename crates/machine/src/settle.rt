@@ -1,159 +1,104 @@
 //! Coming back with a value that was found.
-ghost use Rattle.std.specs.Prelude.{◌≡◌, ◌≢◌, ◌<◌, ℕ, length};
-ghost use Rattle.std.specs.Prelude.{List};
-ghost use Rattle.store.specs.Lists.{Lists};
-ghost use Rattle.values.specs.declared.Value.{Value as RunValue};
+ghost use Rattle.std.specs.Prelude.{◌≡◌, ◌≢◌, ◌<◌, suc, ◌*◌};
 ghost use Rattle.reckoning.specs.Work.{Work};
 ghost use Rattle.reckoning.specs.Moves.{move, stuck};
-ghost use Rattle.machine.specs.Places.{Rule, rule_of};
-ghost use Rattle.machine.specs.Standing.{HasFound, Follows, Reaches, GivesWay, Settles};
+ghost use Rattle.machine.specs.Places.{rule_of};
+ghost use Rattle.machine.specs.Opens.{weighed};
+ghost use Rattle.machine.specs.Standing.{HasFound, Follows};
+ghost use Rattle.machine.specs.Reducing.{room_of};
+ghost use Rattle.machine.specs.Extents.{to_go};
+ghost use Rattle.machine.specs.Going.{Goes, Lessens};
+ghost use Rattle.machine.specs.declared.next.Next.TheVariants as next_is;
 
+use crate::next::{Gone, Next};
+use crate::operand::{operand, ready};
 use crate::operation::Operation;
 use crate::operations::Operations;
-use crate::seek::{Sought, seek};
+use crate::seek::enter;
+use crate::steps::State;
 use readings::environments::Environments;
 use syntax::node::Node;
 use values::Value;
 
-/// What a run goes on with.
-#[derive(Clone, Copy)]
-pub enum Next {
-    /// A value that was found.
-    Value(Value),
-    /// A node that is to be met.
-    Node { place: u16, environment: u32 },
-}
-
-/// What the innermost operation does with a value that was found.
-#[derive(Clone, Copy)]
-pub enum Way {
-    /// There is none.
-    Over,
-    /// It is ready to be reduced with it.
-    Ready,
-    /// It keeps the value, and its left operand is next.
-    Left { place: u16, environment: u32 },
-}
-
-/// Where a value that was found leads, before any reduction.
-#[derive(Clone, Copy)]
-pub enum Settled {
-    Over(Value),
-    Ready(Value),
-    NoStack(u16),
-}
-
-/// Hands a value that was found to the innermost operation: a right operand gives way to the left one.
+/// Hands a value that was found to the innermost operation: a right operand gives way to the left one, and any other is
+/// the last that the operation waits for.
 #[inline(always)]
-pub fn give_way(table: &mut Operations, value: Value) -> Way
-    ensures { (rule : Rule) (lists : Lists RunValue) (w : Work) → HasFound rule lists table.old value w → GivesWay rule lists table.old table.new value result w }
+fn come_back<W: Environments>(
+    nodes: &[Node],
+    store: &mut W,
+    table: &mut Operations,
+    value: Value,
+    left: u32,
+) -> Gone
+    requires found { (w : Work) × HasFound (rule_of nodes.now (W.Store.base store.old)) (W.Store.lists store.old) table.old value w × (move w ≢ stuck) }
+    ensures goes { (w : Work) → HasFound (rule_of nodes.now (W.Store.base store.old)) (W.Store.lists store.old) table.old value w → Goes (rule_of nodes.now (W.Store.base store.old)) (room_of (W.Store.whole store.old) (W.Store.cost store.old)) (W.Store.lists store.old) (W.Store.lists store.new) (W.Store.room store.old) (W.Store.room store.new) left table.new result w }
+    ensures lessens { Lessens nodes.now table.new result (to_go nodes.now table.old (next_is.Value value)) }
+    ensures still { left ≡ 0 → store.new ≡ store.old }
+    ensures base { W.Store.base store.new ≡ W.Store.base store.old }
+    ensures whole { W.Store.whole store.new ≡ W.Store.whole store.old }
+    ensures cost { W.Store.cost store.new ≡ W.Store.cost store.old }
 {
     if table.depth == 0 {
-        return Way::Over;
+        return Gone::Ended(State::Done(value));
     }
-    let (op, way) = match table.top() {
+    let op = table.top();
+    table.pop();
+    match op {
         Operation::Argument {
             node,
             function,
             environment,
-        } => (
-            Operation::Applied {
+        } => {
+            let op = Operation::Applied {
                 node,
                 argument: value,
-            },
-            Way::Left {
-                place: function,
-                environment,
-            },
-        ),
+            };
+            operand(nodes, store, table, op, function, environment, left)
+        }
         Operation::SumRight {
             node,
-            left,
+            left: l,
             environment,
-        } => (
-            Operation::SumLeft { node, right: value },
-            Way::Left {
-                place: left,
-                environment,
-            },
-        ),
+        } => {
+            let op = Operation::SumLeft { node, right: value };
+            operand(nodes, store, table, op, l, environment, left)
+        }
         Operation::CompareRight {
             node,
-            left,
+            left: l,
             environment,
-        } => (
-            Operation::CompareLeft { node, right: value },
-            Way::Left {
-                place: left,
-                environment,
-            },
-        ),
-        _ => return Way::Ready,
-    };
-    table.put(op);
-    way
-}
-
-/// Comes back with a value through the open operations, to one that is ready to be reduced.
-#[inline(always)]
-pub fn settle<W: Environments>(
-    nodes: &[Node],
-    store: &W,
-    table: &mut Operations,
-    value: Value,
-) -> Settled
-    requires { (w : Work) × HasFound (rule_of nodes.now (W.Store.base store.now)) (W.Store.lists store.now) table.old value w × (move w ≢ stuck) }
-    ensures { (w : Work) → HasFound (rule_of nodes.now (W.Store.base store.now)) (W.Store.lists store.now) table.old value w → Settles (rule_of nodes.now (W.Store.base store.now)) (W.Store.lists store.now) table.new result w }
-{
-    let mut found = value;
-    loop {
-        match give_way(table, found) {
-            Way::Over => return Settled::Over(found),
-            Way::Ready => return Settled::Ready(found),
-            Way::Left { place, environment } => match seek(
-                nodes,
-                store,
-                table,
-                place,
-                environment,
-            ) {
-                Sought::Value(left) => found = left,
-                Sought::NoStack(node) => return Settled::NoStack(node),
-            },
+        } => {
+            let op = Operation::CompareLeft { node, right: value };
+            operand(nodes, store, table, op, l, environment, left)
         }
+        // An arm for each, so that what the operation is need not be asked again where it is reduced.
+        Operation::Applied { .. } => ready(nodes, store, table, op, value, left),
+        Operation::Bound { .. } => ready(nodes, store, table, op, value, left),
+        Operation::SumLeft { .. } => ready(nodes, store, table, op, value, left),
+        Operation::CompareLeft { .. } => ready(nodes, store, table, op, value, left),
+        Operation::Condition { .. } => ready(nodes, store, table, op, value, left),
     }
 }
 
-/// The value that a run goes on with, sought from the node that is to be met.
+/// Goes on from a value that was found, or from a node that is to be met.
 #[inline(always)]
-fn value_of<W: Environments>(
+pub fn go_on<W: Environments>(
     nodes: &[Node],
-    store: &W,
+    store: &mut W,
     table: &mut Operations,
     next: Next,
-) -> Sought
-    requires { (w : Work) × Follows (rule_of nodes.now (W.Store.base store.now)) (W.Store.lists store.now) table.old next w × (move w ≢ stuck) }
-    ensures { (w : Work) → Follows (rule_of nodes.now (W.Store.base store.now)) (W.Store.lists store.now) table.old next w → Reaches (rule_of nodes.now (W.Store.base store.now)) (W.Store.lists store.now) table.new result w }
+    left: u32,
+) -> Gone
+    requires follows { (w : Work) × Follows (rule_of nodes.now (W.Store.base store.old)) (W.Store.lists store.old) table.old next w × (move w ≢ stuck) }
+    ensures goes { (w : Work) → Follows (rule_of nodes.now (W.Store.base store.old)) (W.Store.lists store.old) table.old next w → Goes (rule_of nodes.now (W.Store.base store.old)) (room_of (W.Store.whole store.old) (W.Store.cost store.old)) (W.Store.lists store.old) (W.Store.lists store.new) (W.Store.room store.old) (W.Store.room store.new) left table.new result w }
+    ensures lessens { Lessens nodes.now table.new result (to_go nodes.now table.old next) }
+    ensures still { left ≡ 0 → store.new ≡ store.old }
+    ensures base { W.Store.base store.new ≡ W.Store.base store.old }
+    ensures whole { W.Store.whole store.new ≡ W.Store.whole store.old }
+    ensures cost { W.Store.cost store.new ≡ W.Store.cost store.old }
 {
     match next {
-        Next::Value(value) => Sought::Value(value),
-        Next::Node { place, environment } => seek(nodes, store, table, place, environment),
-    }
-}
-
-/// Goes on to an operation that is ready to be reduced.
-#[inline(always)]
-pub fn ready<W: Environments>(
-    nodes: &[Node],
-    store: &W,
-    table: &mut Operations,
-    next: Next,
-) -> Settled
-    requires { (w : Work) × Follows (rule_of nodes.now (W.Store.base store.now)) (W.Store.lists store.now) table.old next w × (move w ≢ stuck) }
-    ensures { (w : Work) → Follows (rule_of nodes.now (W.Store.base store.now)) (W.Store.lists store.now) table.old next w → Settles (rule_of nodes.now (W.Store.base store.now)) (W.Store.lists store.now) table.new result w }
-{
-    match value_of(nodes, store, table, next) {
-        Sought::Value(value) => settle(nodes, store, table, value),
-        Sought::NoStack(node) => Settled::NoStack(node),
+        Next::Value(value) => come_back(nodes, store, table, value, left),
+        Next::Node(met) => enter(nodes, store, table, met.place, met.environment, left),
     }
 }

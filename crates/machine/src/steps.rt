@@ -10,14 +10,14 @@ ghost use Rattle.reckoning.specs.Reckoning.{Reckoned, begun, granted, steps, ahe
 ghost use Rattle.machine.specs.Places.{Rule, rule_of};
 ghost use Rattle.machine.specs.declared.steps.State.TheVariants.{Waiting};
 ghost use Rattle.machine.specs.Handles.{Root};
-ghost use Rattle.machine.specs.Standing.{Readied, Follows};
+ghost use Rattle.machine.specs.Standing.{Readied};
 ghost use Rattle.machine.specs.Reducing.{room_of};
-ghost use Rattle.machine.specs.Running.{state_of, sum_ahead as sum_is_ahead, Rests, StandsAt, NeverStuck, Begins, rooted, OnTheWay, Leads};
+ghost use Rattle.machine.specs.Running.{state_of, sum_ahead as sum_is_ahead, StandsAt, NeverStuck, NotStuckFor, Begins, rooted, OnTheWay};
 
+use crate::next::{Gone, Met, Next};
 use crate::operation::Operation;
 use crate::operations::Operations;
-use crate::reduce::{Reduced, reduce};
-use crate::settle::{Next, Settled, ready};
+use crate::settle::go_on;
 use arithmetic::OutOfRange;
 use readings::environments::Environments;
 use syntax::node::Node;
@@ -31,15 +31,6 @@ pub enum State {
     Range { node: u16, beyond: OutOfRange },
     NoStore(u16),
     NoStack(u16),
-}
-
-/// What comes of a granted step.
-#[derive(Clone, Copy)]
-pub enum Gone {
-    /// A reduction, and the run goes on with what is next.
-    On(Next),
-    /// None: the run is in this state.
-    Ended(State),
 }
 
 /// Where a run is.
@@ -80,27 +71,6 @@ fn ahead(table: &Operations, value: Value) -> State
     }
 }
 
-/// One granted step: on to an operation that is ready, and its reduction.
-#[inline(always)]
-fn step<W: Environments>(nodes: &[Node], store: &mut W, table: &mut Operations, next: Next) -> Gone
-    requires goes_on { (root : Root) × (s : Reckoned) × OnTheWay (rule_of nodes.now (W.Store.base store.old)) (W.Store.lists store.old) (room_of (W.Store.whole store.old) (W.Store.cost store.old)) (W.Store.room store.old) root table.old next s × NeverStuck (room_of (W.Store.whole store.old) (W.Store.cost store.old)) s }
-    ensures goes { (root : Root) (s : Reckoned) → OnTheWay (rule_of nodes.now (W.Store.base store.old)) (W.Store.lists store.old) (room_of (W.Store.whole store.old) (W.Store.cost store.old)) (W.Store.room store.old) root table.old next s → Leads (rule_of nodes.now (W.Store.base store.old)) (W.Store.lists store.new) (room_of (W.Store.whole store.old) (W.Store.cost store.old)) (W.Store.room store.new) root table.new result s }
-    ensures base { W.Store.base store.new ≡ W.Store.base store.old }
-    ensures whole { W.Store.whole store.new ≡ W.Store.whole store.old }
-    ensures cost { W.Store.cost store.new ≡ W.Store.cost store.old }
-{
-    match ready(nodes, store, table, next) {
-        Settled::Over(value) => Gone::Ended(State::Done(value)),
-        Settled::NoStack(node) => Gone::Ended(State::NoStack(node)),
-        Settled::Ready(value) => match reduce(nodes, store, table, value) {
-            Reduced::Found(value) => Gone::On(Next::Value(value)),
-            Reduced::Body { place, environment } => Gone::On(Next::Node { place, environment }),
-            Reduced::Range { node, beyond } => Gone::Ended(State::Range { node, beyond }),
-            Reduced::NoStore(node) => Gone::Ended(State::NoStore(node)),
-        },
-    }
-}
-
 impl Machine {
     /// A run that has not begun.
     pub fn new() -> Machine {
@@ -112,38 +82,54 @@ impl Machine {
         }
     }
 
-    /// Goes on to where the run waits or ends, with no step left.
+    /// Goes on from what is next, until the run ends, or waits with no step left of those granted.
     #[inline(never)]
-    fn rest<W: Environments>(&mut self, nodes: &[Node], store: &W, next: Next)
-        requires { (w : Work) × Follows (rule_of nodes.now (W.Store.base store.now)) (W.Store.lists store.now) self.old.table next w × (move w ≢ stuck) }
-        ensures rests { (w : Work) → Follows (rule_of nodes.now (W.Store.base store.now)) (W.Store.lists store.now) self.old.table next w → Rests (rule_of nodes.now (W.Store.base store.now)) (W.Store.lists store.now) self.new w }
-        ensures count { self.new.count ≡ self.old.count }
+    fn walk<W: Environments>(&mut self, nodes: &[Node], store: &mut W, from: Next, granted: u32)
+        requires low { self.old.count + granted < 4294967296 }
+        requires goes_on { (root : Root) × (s : Reckoned) × OnTheWay (rule_of nodes.now (W.Store.base store.old)) (W.Store.lists store.old) (room_of (W.Store.whole store.old) (W.Store.cost store.old)) (W.Store.room store.old) root self.old.table from s × NotStuckFor (room_of (W.Store.whole store.old) (W.Store.cost store.old)) granted s }
+        ensures goes { (root : Root) (s : Reckoned) → OnTheWay (rule_of nodes.now (W.Store.base store.old)) (W.Store.lists store.old) (room_of (W.Store.whole store.old) (W.Store.cost store.old)) (W.Store.room store.old) root self.old.table from s → self.old.count ≡ s.count → StandsAt (rule_of nodes.now (W.Store.base store.old)) (W.Store.lists store.new) (room_of (W.Store.whole store.old) (W.Store.cost store.old)) (W.Store.room store.new) root self.new (steps (room_of (W.Store.whole store.old) (W.Store.cost store.old)) granted s) }
+        ensures still { granted ≡ 0 → store.new ≡ store.old }
+        ensures base { W.Store.base store.new ≡ W.Store.base store.old }
+        ensures whole { W.Store.whole store.new ≡ W.Store.whole store.old }
+        ensures cost { W.Store.cost store.new ≡ W.Store.cost store.old }
     {
-        match ready(nodes, store, &mut self.table, next) {
-            Settled::Over(value) => self.state = State::Done(value),
-            Settled::Ready(value) => {
-                self.focus = value;
-                self.state = ahead(&self.table, value);
+        let mut next = from;
+        let mut left = granted;
+        loop {
+            match go_on(nodes, store, &mut self.table, next, left) {
+                Gone::Nearer(to) => next = to,
+                Gone::On(to) => {
+                    next = to;
+                    left -= 1;
+                }
+                Gone::Waits(value) => {
+                    self.focus = value;
+                    self.count += granted;
+                    self.state = ahead(&self.table, value);
+                    return;
+                }
+                Gone::Ended(state) => {
+                    self.count += granted - left;
+                    self.state = state;
+                    return;
+                }
             }
-            Settled::NoStack(node) => self.state = State::NoStack(node),
         }
     }
 
     /// Begins: at the root of the tree, in the environment of a handle.
-    pub fn begin<W: Environments>(&mut self, nodes: &[Node], store: &W, environment: u32)
-        requires { (t : Tree) × (readings : List ℤ) × Begins (rule_of nodes.now (W.Store.base store.now)) (W.Store.lists store.now) (W.Store.whole store.now) (W.Store.room store.now) environment t readings × (move (begun readings t).work ≢ stuck) }
-        ensures { (t : Tree) (readings : List ℤ) → Begins (rule_of nodes.now (W.Store.base store.now)) (W.Store.lists store.now) (W.Store.whole store.now) (W.Store.room store.now) environment t readings → StandsAt (rule_of nodes.now (W.Store.base store.now)) (W.Store.lists store.now) (room_of (W.Store.whole store.now) (W.Store.cost store.now)) (W.Store.room store.now) (rooted environment readings) self.new (begun readings t) }
+    pub fn begin<W: Environments>(&mut self, nodes: &[Node], store: &mut W, environment: u32)
+        requires { (t : Tree) × (readings : List ℤ) × Begins (rule_of nodes.now (W.Store.base store.old)) (W.Store.lists store.old) (W.Store.whole store.old) (W.Store.room store.old) environment t readings × (move (begun readings t).work ≢ stuck) }
+        ensures stands { (t : Tree) (readings : List ℤ) → Begins (rule_of nodes.now (W.Store.base store.old)) (W.Store.lists store.old) (W.Store.whole store.old) (W.Store.room store.old) environment t readings → StandsAt (rule_of nodes.now (W.Store.base store.old)) (W.Store.lists store.old) (room_of (W.Store.whole store.old) (W.Store.cost store.old)) (W.Store.room store.old) (rooted environment readings) self.new (begun readings t) }
+        ensures store { store.new ≡ store.old }
     {
         self.table.clear();
         self.count = 0;
-        self.rest(
-            nodes,
-            store,
-            Next::Node {
-                place: 0,
-                environment,
-            },
-        );
+        let root = Next::Node(Met {
+            place: 0,
+            environment,
+        });
+        self.walk(nodes, store, root, 0);
     }
 
     /// So many granted steps: exactly as many reductions, or as many as there are before the run ends.
@@ -158,20 +144,6 @@ impl Machine {
         let State::Waiting = self.state else {
             return;
         };
-        let mut next = Next::Value(self.focus);
-        for done in 0..granted {
-            match step(nodes, store, &mut self.table, next) {
-                Gone::On(to) => next = to,
-                Gone::Ended(state) => {
-                    self.count += done;
-                    self.state = state;
-                    return;
-                }
-            }
-        }
-        self.count += granted;
-        // A copy, so that what is next stays out of memory within the loop.
-        let last = next;
-        self.rest(nodes, store, last);
+        self.walk(nodes, store, Next::Value(self.focus), granted);
     }
 }

@@ -1,49 +1,51 @@
-use Rattle.std.proofs.Common.{rules, sym, ap, subst, ◌∙◌, SFits, w32}
-use Rattle.std.proofs.lemmas.Int.{to_z-of_z}
-use Rattle.values.specs.declared.Value.TheVariants.{Number}
-use Rattle.machine.specs.Standing.{HasFound, FewerLeft}
-use Rattle.machine.proofs.Placing.{at_inside}
-use Rattle.machine.proofs.Entering.{finds, finds_number, finds_truth, finds_function}
-use Rattle.machine.proofs.Fusing.{met_goes_on}
-use Rattle.machine.proofs.Variables.{binder_at_once, no_binder, reading_at_once, no_reading}
+use Rattle.std.proofs.Common.{sym, subst, refl, arith}
+use Rattle.machine.specs.Opens.{IsOperation}
+use Rattle.machine.proofs.Placing.{at_inside, some_nodes}
+use Rattle.machine.proofs.Entering.{found, over}
+use Rattle.machine.proofs.Extents.{at_extent}
+use Rattle.machine.proofs.Fusing.{met_goes_on, is_operation, no_operation}
 use Rattle.machine.proofs.seek.enter.Goals as goal
 use Rattle.machine.specs.Places.{rule_of}
 
 pub node-requires : goal.node-requires
-node-requires g c = let m = c.requires.2 in at_inside (rule_of c.args.nodes.now (g.W.Store.base c.args.store.now)) _ c.args.place m.term m.at
+node-requires g c = let m = c.requires.meets.1 in at_inside (rule_of c.args.nodes.now (g.W.Store.base c.args.store.now)) _ c.args.place m.term m.at
 
-pub returns-in-Number-clause-enters : goal.returns-in-Number-clause-enters
-returns-in-Number-clause-enters g c w k m =
-    let fits : SFits w32 c.in-Number.number = search rules in
-    subst (λ v. HasFound (rule_of c.args.nodes.now (g.W.Store.base c.args.store.now)) (g.W.Store.lists c.args.store.now) c.args.table.now v w × FewerLeft (rule_of c.args.nodes.now (g.W.Store.base c.args.store.now)) c.args.table.now k) (sym (c.number_value.ensures ∙ ap Number (to_z-of_z w32 c.in-Number.number fits)))
-    (finds_number (rule_of c.args.nodes.now (g.W.Store.base c.args.store.now)) (g.W.Store.lists c.args.store.now) c.args.table.now c.args.place c.args.environment w k c.in-Number.number c.in-Number.ensures m)
-
-pub returns-in-Truth-clause-enters : goal.returns-in-Truth-clause-enters
-returns-in-Truth-clause-enters g c w k m =
-    finds_truth (rule_of c.args.nodes.now (g.W.Store.base c.args.store.now)) (g.W.Store.lists c.args.store.now) c.args.table.now c.args.place c.args.environment w k c.in-Truth.truth c.in-Truth.ensures m
-
-pub returns-in-Ok-clause-enters : goal.returns-in-Ok-clause-enters
-returns-in-Ok-clause-enters g c w k m =
-    let v = binder_at_once c.args.nodes.now _ _ (g.met.W.Environments.base c.args.store.now) _ _ (g.met.W.Environments.behind c.args.store.now) c.args.place c.args.environment m.term m.env m.at m.environment c.in-Variable.distance c.in-Ok.value c.in-Variable.ensures c.in-Ok.ensures in
-    finds (rule_of c.args.nodes.now (g.W.Store.base c.args.store.now)) (g.W.Store.lists c.args.store.now) c.args.table.now c.args.place c.args.environment w k c.in-Ok.value v.0 m v.1 v.2
+pub leaf-requires : goal.leaf-requires
+leaf-requires g c =
+    let m = c.requires.meets in
+    met_goes_on (rule_of c.args.nodes.now (g.W.Store.base c.args.store.now)) (g.W.Store.lists c.args.store.now) c.args.table.now c.args.place c.args.environment m.0 m.1 m.2
 
 pub unreachable-requires : goal.unreachable-requires
-unreachable-requires g c =
-    let m = c.requires in
-    no_binder c.args.nodes.now _ _ (g.met.W.Environments.base c.args.store.now) _ _ (g.met.W.Environments.behind c.args.store.now) c.args.place c.args.environment c.in-Variable.distance c.in-Err.field-0 c.in-Variable.ensures c.in-Err.ensures
-    (met_goes_on (rule_of c.args.nodes.now (g.W.Store.base c.args.store.now)) (g.W.Store.lists c.args.store.now) c.args.table.now c.args.place c.args.environment m.0 m.1 m.2 m.3)
+unreachable-requires g c = no_operation c.node.result c.in-Number.is (subst IsOperation (sym c.node.ensures) (c.in-None.ensures.operation refl))
 
-pub returns-in-Some-clause-enters : goal.returns-in-Some-clause-enters
-returns-in-Some-clause-enters g c w k m =
-    let v = reading_at_once c.args.nodes.now _ _ (g.met.W.Environments.base c.args.store.now) _ _ (g.met.W.Environments.behind c.args.store.now) c.args.place c.args.environment m.term m.env m.at m.environment c.in-Reading.number c.in-Some.value c.in-Reading.ensures c.in-Some.ensures in
-    finds (rule_of c.args.nodes.now (g.W.Store.base c.args.store.now)) (g.W.Store.lists c.args.store.now) c.args.table.now c.args.place c.args.environment w k c.in-Some.value v.0 m v.1 v.2
+pub returns-in-Some-clause-goes : goal.returns-in-Some-clause-goes
+returns-in-Some-clause-goes g c w m =
+    (λ h. refl, refl, found (rule_of c.args.nodes.now (g.W.Store.base c.args.store.now)) (g.W.Store.lists c.args.store.now) c.args.table.now c.args.place c.args.environment w c.in-Some.value m (c.in-Some.ensures.value m.term m.env m.at m.environment))
 
-pub unreachable-requires-in-None : goal.unreachable-requires-in-None
-unreachable-requires-in-None g c =
-    let m = c.requires in
-    no_reading c.args.nodes.now _ _ (g.met.W.Environments.base c.args.store.now) _ _ (g.met.W.Environments.behind c.args.store.now) c.args.place c.args.environment c.in-Reading.number c.in-Reading.ensures c.in-None.ensures
-    (met_goes_on (rule_of c.args.nodes.now (g.W.Store.base c.args.store.now)) (g.W.Store.lists c.args.store.now) c.args.table.now c.args.place c.args.environment m.0 m.1 m.2 m.3)
+pub returns-in-Some-clause-lessens : goal.returns-in-Some-clause-lessens
+returns-in-Some-clause-lessens g c =
+    let m = c.requires.meets.1 in
+    let few = some_nodes m.at.tree in
+    let e = at_extent (rule_of c.args.nodes.now (g.W.Store.base c.args.store.now)) _ c.args.place m.term m.at in
+    omega arith
 
-pub returns-in-Function-clause-enters : goal.returns-in-Function-clause-enters
-returns-in-Function-clause-enters g c w k m =
-    finds_function (rule_of c.args.nodes.now (g.W.Store.base c.args.store.now)) (g.W.Store.lists c.args.store.now) c.args.table.now c.args.place c.args.environment w k c.in-Function.field-0 c.in-Function.ensures m
+pub returns-in_default : goal.returns-in_default
+returns-in_default g c =
+    record {
+      goes = λ w m. (
+        λ h. refl,
+        refl,
+        over (rule_of c.args.nodes.now (g.W.Store.base c.args.store.now)) (g.W.Store.lists c.args.store.now) c.args.table.now c.args.place c.args.environment w m c.if-table-eq-MOST_OPEN.true c.node.result c.node.ensures
+            (is_operation c.node.result c.in_default.not-Number c.in_default.not-Truth c.in_default.not-Variable c.in_default.not-Reading c.in_default.not-Function),
+      );
+      lessens = tt;
+      still = λ e. refl;
+      base = refl;
+      whole = refl;
+      cost = refl;
+    }
+
+pub enter_operation-requires-clause-operation : goal.enter_operation-requires-clause-operation
+enter_operation-requires-clause-operation g c =
+    subst IsOperation c.node.ensures
+    (is_operation c.node.result c.in_default.not-Number c.in_default.not-Truth c.in_default.not-Variable c.in_default.not-Reading c.in_default.not-Function)
