@@ -33,9 +33,9 @@ module _ (s : List ℕ) where
     omega (arith, b.0),
     omega arith,
     λ j low high. ⊎_elim
-    (λ (e : j < i). b.2 j low e)
-    (λ (e : j ≡ i). subst (λ k. blank (get_or s k 0) ≡ true) (sym e) h)
-    (split j i (omega (arith, high))),
+        (λ (e : j < i). b.2 j low e)
+        (λ (e : j ≡ i). subst (λ k. blank (get_or s k 0) ≡ true) (sym e) h)
+        (split j i (omega (arith, high))),
   )
     where
       split : (j i : ℕ) → j < i + 1 → (j < i) ⊎ (j ≡ i)
@@ -89,9 +89,9 @@ module _ (s : List ℕ) where
       by false e r = (
         omega (arith, r.0),
         λ m low high. ⊎_elim
-        (λ (h : m ≤ place + n). r.1 m low h)
-        (λ (h : m ≡ place + suc n). subst (λ k. token (part s place k) ≡ none) (sym h) (no_token _ e))
-        (split m high),
+            (λ (h : m ≤ place + n). r.1 m low h)
+            (λ (h : m ≡ place + suc n). subst (λ k. token (part s place k) ≡ none) (sym h) (no_token _ e))
+            (split m high),
       )
 
   -- ── tokens ──

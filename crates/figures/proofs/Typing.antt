@@ -25,8 +25,7 @@ heating_general = int_general 1 heating ((refl, refl, refl), refl, refl) (λ σ 
 
 pub thrice_general : MostGeneral 0 thrice int
 thrice_general =
-    int_general 0 thrice
-    (
+    int_general 0 thrice (
       int,
       (
         int ⇒ int,

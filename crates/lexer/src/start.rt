@@ -70,7 +70,9 @@ impl<'a> Start<'a> {
     fn followed_by(&self, sign: char) -> bool
         ensures { Followed self.now.text.now self.now.place sign result }
     {
-        self.text.get(self.place + 1).is_some_and(|byte| char::from(*byte) == sign)
+        self.text
+            .get(self.place + 1)
+            .is_some_and(|byte| char::from(*byte) == sign)
     }
 
     /// The token that begins with a minus: an arrow, or a number below zero.

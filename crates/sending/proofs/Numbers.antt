@@ -43,8 +43,7 @@ derives_in_range (let_equals_in {a = a} {b = b} d d') h =
     let rest = h.1.1.1 in
     (derives_in_range d (all_first a _ rest), derives_in_range d' (all_last a _ rest).1)
 derives_in_range (if_then_else {a} {b} {c} d d' d'') h =
-    let rest = (all_last a _ h.1).1 in
-    (
+    let rest = (all_last a _ h.1).1 in (
       derives_in_range d (all_first a _ h.1),
       derives_in_range d' (all_first b _ rest),
       derives_in_range d'' (all_last b _ rest).1,
