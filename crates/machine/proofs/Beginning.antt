@@ -1,6 +1,6 @@
 -- Where a run begins. Assumes nothing.
-use Rattle.std.proofs.Common.{◌≡◌, ℕ, List, [], length, ℤ, refl, sym, ap, subst, arith}
-use Rattle.syntax.specs.Tree.{Tree, nodes}
+use Rattle.std.proofs.Common.{◌≡◌, ℕ, List, [], length, ℤ, refl, sym, subst, arith}
+use Rattle.syntax.specs.Tree.{Tree}
 use Rattle.syntax.specs.declared.node.Node.{Node}
 use Rattle.store.specs.Lists.{Lists}
 use Rattle.values.specs.declared.Value.{Value}

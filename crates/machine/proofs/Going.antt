@@ -1,5 +1,5 @@
 -- A granted step of a run that is on its way. Assumes nothing.
-use Rattle.std.proofs.Common.{◌≡◌, ◌≢◌, ℕ, suc, ◌<◌, ◌≤◌, List, refl, sym, ap, ◌∙◌, subst, arith}
+use Rattle.std.proofs.Common.{◌≡◌, ◌≢◌, ℕ, suc, ◌≤◌, List, refl, sym, ap, ◌∙◌, subst, arith}
 use Rattle.std.proofs.Math.Option.{Option, none, some}
 use Rattle.syntax.specs.declared.node.Node.{Node}
 use Rattle.store.specs.Lists.{Lists, Same}
@@ -7,7 +7,7 @@ use Rattle.values.specs.declared.Value.{Value}
 use Rattle.reckoning.specs.Work.{Work}
 use Rattle.reckoning.specs.Moves.{Move, rests, beyond, stuck, plain, makes, move}
 use Rattle.reckoning.specs.Open.{one_too_many}
-use Rattle.reckoning.specs.Room.{Room, price}
+use Rattle.reckoning.specs.Room.{Room}
 use Rattle.reckoning.specs.Reckoning.{Reckoned, State, waiting, shortage, ahead, state, granted, steps}
 use Rattle.machine.specs.declared.operations.Operations.{Operations}
 use Rattle.machine.specs.declared.next.Next.{Next}

@@ -1,5 +1,5 @@
 -- Where a run stands. Assumes nothing.
-use Rattle.std.specs.Prelude.{◌≡◌, ◌≢◌, ℕ, suc, ◌≤◌, ℤ, List, length, None, Result, Ok, Err}
+use Rattle.std.specs.Prelude.{◌≡◌, ◌≢◌, ℕ, ◌≤◌, ℤ, List, length, None, Result, Ok, Err}
 use Rattle.std.proofs.Math.Option.{none}
 use Rattle.syntax.specs.declared.node.Node.{Node}
 use Rattle.syntax.specs.Tree.{Tree, nodes}
@@ -12,9 +12,7 @@ use Rattle.arithmetic.specs.declared.OutOfRange.{OutOfRange}
 use Rattle.arithmetic.specs.Sums.{as_result}
 use Rattle.calculus.specs.Length.{Answer}
 use Rattle.reckoning.specs.Environments.{base}
-use Rattle.reckoning.specs.Work.{Work}
 use Rattle.reckoning.specs.Moves.{stuck, move}
-use Rattle.reckoning.specs.Open.{one_too_many}
 use Rattle.reckoning.specs.Room.{Room, free}
 use Rattle.reckoning.specs.Reckoning.{Reckoned, shortage, ahead, state, granted, steps}
 use Rattle.reckoning.specs.Reckoning as plain

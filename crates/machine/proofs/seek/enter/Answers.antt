@@ -1,4 +1,4 @@
-use Rattle.std.proofs.Common.{sym, ◌∙◌, subst, refl, arith}
+use Rattle.std.proofs.Common.{sym, subst, refl, arith}
 use Rattle.machine.specs.Opens.{IsOperation}
 use Rattle.machine.proofs.Placing.{at_inside, some_nodes}
 use Rattle.machine.proofs.Entering.{found, over}

@@ -1,4 +1,4 @@
-use Rattle.std.proofs.Common.{◌≡◌, ◌+◌, ◌<◌, sym, ap, ◌∙◌, subst, refl, arith}
+use Rattle.std.proofs.Common.{◌≡◌, sym, ap, ◌∙◌, subst, refl, arith}
 use Rattle.syntax.specs.Tree.{nodes}
 use Rattle.syntax.specs.declared.node.Node.TheVariants.{Sum, AtMost}
 use Rattle.machine.specs.declared.operation.Operation.TheVariants.{SumRight, CompareRight}

@@ -1,7 +1,7 @@
-use Rattle.std.proofs.Common.{◌≡◌, ◌+◌, ◌<◌, sym, ap, ◌∙◌, subst, refl, arith}
+use Rattle.std.proofs.Common.{◌≡◌, sym, ap, ◌∙◌, subst, refl, arith}
 use Rattle.syntax.specs.Tree.{nodes}
 use Rattle.syntax.specs.declared.node.Node.TheVariants.{Application, LetIn, IfElse}
-use Rattle.machine.specs.declared.operation.Operation.TheVariants.{Argument, Bound, Condition}
+use Rattle.machine.specs.declared.operation.Operation.TheVariants.{Argument}
 use Rattle.machine.specs.Opens.{span, weight, IsOperation, IsOfNumbers}
 use Rattle.machine.specs.Reducing.{room_of}
 use Rattle.machine.specs.Extents.{to_meet}

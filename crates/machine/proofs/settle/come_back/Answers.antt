@@ -1,4 +1,4 @@
-use Rattle.std.proofs.Common.{◌<◌, ◌-◌, sym, refl, subst, arith}
+use Rattle.std.proofs.Common.{◌<◌, sym, refl, subst, arith}
 use Rattle.machine.specs.declared.operation.Operation.TheVariants.{Argument, SumRight, CompareRight}
 use Rattle.machine.proofs.Entering.{gives_argument, gives_sum, gives_compare}
 use Rattle.machine.proofs.Extents.{gives_way}

@@ -1,4 +1,4 @@
-use Rattle.std.proofs.Common.{◌≡◌, ◌≢◌, ◌≤◌, ℕ, refl, sym, ap, ◌∙◌, subst, arith}
+use Rattle.std.proofs.Common.{◌≡◌, ◌≢◌, refl, subst, arith}
 use Rattle.reckoning.specs.Moves.{move, stuck}
 use Rattle.reckoning.specs.Reckoning.{begun, steps}
 use Rattle.machine.specs.Reducing.{room_of}

@@ -1,4 +1,4 @@
-use Rattle.std.proofs.Common.{◌≤◌, refl, arith}
+use Rattle.std.proofs.Common.{refl, arith}
 use Rattle.machine.specs.Reducing.{room_of}
 use Rattle.machine.proofs.Granting.{stopped}
 use Rattle.machine.proofs.Going.{on_the_way}

@@ -1,10 +1,9 @@
-use Rattle.std.proofs.Common.{◌≡◌, ℕ, ◌+◌, ◌-◌, ◌*◌, ◌<◌, suc, length, refl, sym, ap, ◌∙◌, subst, arith}
+use Rattle.std.proofs.Common.{◌≡◌, ◌+◌, ◌-◌, ◌*◌, suc, length, refl, ap, ◌∙◌, subst, arith}
 use Rattle.reckoning.specs.Reckoning.{steps}
 use Rattle.reckoning.proofs.Steps.{steps_add_up}
 use Rattle.machine.specs.declared.next.Gone.TheVariants.{Nearer, On, Waits, Ended}
 use Rattle.machine.specs.declared.steps.Machine.{Machine}
 use Rattle.machine.specs.Reducing.{room_of}
-use Rattle.machine.specs.Extents.{to_go}
 use Rattle.machine.specs.Going.{Goes}
 use Rattle.machine.specs.Running.{StandsAt, OnTheWay}
 use Rattle.machine.proofs.Extents.{to_go_bounded}

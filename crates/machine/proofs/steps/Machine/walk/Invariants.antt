@@ -1,4 +1,4 @@
-use Rattle.std.proofs.Common.{◌≡◌, ℕ, ◌+◌, ◌-◌, ◌*◌, ◌≤◌, length}
+use Rattle.std.proofs.Common.{◌≡◌, ◌+◌, ◌-◌, ◌*◌, ◌≤◌, length}
 use Rattle.machine.specs.Handles.{Root}
 use Rattle.reckoning.specs.Reckoning.{Reckoned, steps}
 use Rattle.machine.specs.Reducing.{room_of}
