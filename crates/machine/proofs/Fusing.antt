@@ -14,7 +14,7 @@ use Rattle.reckoning.specs.Moves.{move, stuck}
 use Rattle.machine.specs.declared.operations.Operations.{Operations}
 use Rattle.machine.specs.Places.{Rule, At, BodyOf}
 use Rattle.machine.specs.Handles.{IsListOf}
-use Rattle.machine.specs.Opens.{IsOperation}
+use Rattle.machine.specs.Opens.{IsOperation, IsOfNumbers}
 use Rattle.machine.specs.Leaves.{AtOnce, GoesOn}
 use Rattle.machine.specs.Standing.{Meets}
 use Rattle.machine.proofs.Placing.{shape, at_inside}
@@ -32,6 +32,20 @@ is_operation (node.LetIn e b) not_number not_truth not_variable not_reading not_
 is_operation (node.Sum l r) not_number not_truth not_variable not_reading not_function = tt
 is_operation (node.AtMost l r) not_number not_truth not_variable not_reading not_function = tt
 is_operation (node.IfElse c t e) not_number not_truth not_variable not_reading not_function = tt
+
+-- an operation of none of the other kinds
+pub is_of_numbers : (n : Node) → IsOperation n → ((f a : ℕ) → n ≡ node.Application f a → ⊥) → ((e b : ℕ) → n ≡ node.LetIn e b → ⊥) →
+    ((c t e : ℕ) → n ≡ node.IfElse c t e → ⊥) → IsOfNumbers n
+is_of_numbers (node.Number k) o not_application not_let not_if = absurd o
+is_of_numbers (node.Truth b) o not_application not_let not_if = absurd o
+is_of_numbers (node.Variable d) o not_application not_let not_if = absurd o
+is_of_numbers (node.Reading j) o not_application not_let not_if = absurd o
+is_of_numbers (node.Function b) o not_application not_let not_if = absurd o
+is_of_numbers (node.Application f a) o not_application not_let not_if = absurd (not_application f a refl)
+is_of_numbers (node.LetIn e b) o not_application not_let not_if = absurd (not_let e b refl)
+is_of_numbers (node.Sum l r) o not_application not_let not_if = tt
+is_of_numbers (node.AtMost l r) o not_application not_let not_if = tt
+is_of_numbers (node.IfElse c t e) o not_application not_let not_if = absurd (not_if c t e refl)
 
 -- a leaf is no operation
 pub no_operation : (n : Node) → ((k : ℤ) × (n ≡ node.Number k)) ⊎ (((b : Bool) × (n ≡ node.Truth b)) ⊎ (((d : ℕ) × (n ≡ node.Variable d)) ⊎ (((j : ℕ) × (n ≡ node.Reading j)) ⊎ ((b : ℕ) × (n ≡ node.Function b))))) →

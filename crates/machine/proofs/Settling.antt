@@ -23,17 +23,6 @@ ready_weight ns (CompareRight n p h) r = absurd r
 ready_weight ns (CompareLeft n v) r = refl
 ready_weight ns (Condition n p q h) r = refl
 
--- an operation whose left operand does not wait
-pub is_ready : (op : Operation) → ((n p h : ℕ) → op ≡ Argument n p h → ⊥) → ((n p h : ℕ) → op ≡ SumRight n p h → ⊥) → ((n p h : ℕ) → op ≡ CompareRight n p h → ⊥) → IsReady op
-is_ready (Argument n p h) not_argument not_sum not_compare = absurd (not_argument n p h refl)
-is_ready (Applied n v) not_argument not_sum not_compare = tt
-is_ready (Bound n p h) not_argument not_sum not_compare = tt
-is_ready (SumRight n p h) not_argument not_sum not_compare = absurd (not_sum n p h refl)
-is_ready (SumLeft n v) not_argument not_sum not_compare = tt
-is_ready (CompareRight n p h) not_argument not_sum not_compare = absurd (not_compare n p h refl)
-is_ready (CompareLeft n v) not_argument not_sum not_compare = tt
-is_ready (Condition n p q h) not_argument not_sum not_compare = tt
-
 module _ (rule : Rule) (lists : Lists Value) where
   pub taken : (table : Operations) (x : Value) (w : Work) (op : Operation) (d : ℕ) → 0 < table.depth → d + 1 ≡ table.depth →
       op_at table.ops (table.depth - 1) ≡ op → HasFound rule lists table x w → InHand rule lists table.ops d op x w

@@ -29,6 +29,19 @@ IsOperation (node.Sum l r) = Unit {0}
 IsOperation (node.AtMost l r) = Unit {0}
 IsOperation (node.IfElse c t e) = Unit {0}
 
+-- a sum or a comparison
+abbrev pub IsOfNumbers : Node → Type 0
+IsOfNumbers (node.Number k) = ⊥
+IsOfNumbers (node.Truth b) = ⊥
+IsOfNumbers (node.Variable d) = ⊥
+IsOfNumbers (node.Reading j) = ⊥
+IsOfNumbers (node.Function b) = ⊥
+IsOfNumbers (node.Application f a) = ⊥
+IsOfNumbers (node.LetIn e b) = ⊥
+IsOfNumbers (node.Sum l r) = Unit {0}
+IsOfNumbers (node.AtMost l r) = Unit {0}
+IsOfNumbers (node.IfElse c t e) = ⊥
+
 -- how many nodes the left operand of a node has, by the places of its operands
 abbrev pub span : Node → ℕ
 span (node.Number k) = 0

@@ -49,16 +49,6 @@ impl Operations {
         self.ops[self.depth - 1]
     }
 
-    /// Puts another operation in the place of the innermost.
-    #[inline(always)]
-    pub fn put(&mut self, op: Operation)
-        requires { 0 < self.old.depth }
-        ensures ops { Topped self.old.ops self.new.ops (self.old.depth - 1) op }
-        ensures depth { self.new.depth ≡ self.old.depth }
-    {
-        self.ops[self.depth - 1] = op;
-    }
-
     /// Closes the innermost operation.
     #[inline(always)]
     pub fn pop(&mut self)

@@ -8,7 +8,7 @@ ghost use Rattle.reckoning.specs.Environments.{Env, size};
 ghost use Rattle.machine.specs.Places.{At, rule_of};
 ghost use Rattle.machine.specs.Handles.{IsListOf};
 ghost use Rattle.machine.specs.Leaves.{AtOnce, GoesOn};
-ghost use Rattle.machine.specs.Opens.{IsOperation};
+ghost use Rattle.machine.specs.Opens.{IsOperation, IsOfNumbers};
 ghost use Rattle.machine.specs.Standing.{Meets};
 ghost use Rattle.machine.specs.Reducing.{room_of};
 ghost use Rattle.machine.specs.Extents.{to_meet};
@@ -72,8 +72,61 @@ pub fn leaf<W: Environments>(
     }
 }
 
-/// Enters an operation: the right operand of an application, a sum or a comparison first. An operand that is a leaf is
-/// worked out at once, and the operation stays in hand.
+/// Enters a sum or a comparison: the right operand first.
+#[inline(always)]
+fn enter_numbers<W: Environments>(
+    nodes: &[Node],
+    store: &mut W,
+    table: &mut Operations,
+    place: u16,
+    environment: u32,
+    left: u32,
+) -> Gone
+    requires room { table.old.depth < 256 }
+    requires numbers { IsOfNumbers (node_at nodes.now place) }
+    requires meets { (w : Work) × Meets (rule_of nodes.now (W.Store.base store.old)) (W.Store.lists store.old) table.old place environment w × (move w ≢ stuck) }
+    ensures goes { (w : Work) → Meets (rule_of nodes.now (W.Store.base store.old)) (W.Store.lists store.old) table.old place environment w → Goes (rule_of nodes.now (W.Store.base store.old)) (room_of (W.Store.whole store.old) (W.Store.cost store.old)) (W.Store.lists store.old) (W.Store.lists store.new) (W.Store.room store.old) (W.Store.room store.new) left table.new result w }
+    ensures lessens { Lessens nodes.now table.new result (to_meet nodes.now table.old place) }
+    ensures still { left ≡ 0 → store.new ≡ store.old }
+    ensures base { W.Store.base store.new ≡ W.Store.base store.old }
+    ensures whole { W.Store.whole store.new ≡ W.Store.whole store.old }
+    ensures cost { W.Store.cost store.new ≡ W.Store.cost store.old }
+{
+    match node(nodes, place) {
+        Node::Sum(l, r) => match leaf(nodes, store, r, environment) {
+            Some(right) => {
+                let op = Operation::SumLeft { node: place, right };
+                operand(nodes, store, table, op, l, environment, left)
+            }
+            None => {
+                let op = Operation::SumRight {
+                    node: place,
+                    left: l,
+                    environment,
+                };
+                open(table, op, r, environment)
+            }
+        },
+        Node::AtMost(l, r) => match leaf(nodes, store, r, environment) {
+            Some(right) => {
+                let op = Operation::CompareLeft { node: place, right };
+                operand(nodes, store, table, op, l, environment, left)
+            }
+            None => {
+                let op = Operation::CompareRight {
+                    node: place,
+                    left: l,
+                    environment,
+                };
+                open(table, op, r, environment)
+            }
+        },
+        _ => unreachable!(),
+    }
+}
+
+/// Enters an operation: the argument of an application first. An operand that is a leaf is worked out at once, and the
+/// operation stays in hand.
 #[inline(always)]
 fn enter_operation<W: Environments>(
     nodes: &[Node],
@@ -119,34 +172,6 @@ fn enter_operation<W: Environments>(
             };
             operand(nodes, store, table, op, bound, environment, left)
         }
-        Node::Sum(l, r) => match leaf(nodes, store, r, environment) {
-            Some(right) => {
-                let op = Operation::SumLeft { node: place, right };
-                operand(nodes, store, table, op, l, environment, left)
-            }
-            None => {
-                let op = Operation::SumRight {
-                    node: place,
-                    left: l,
-                    environment,
-                };
-                open(table, op, r, environment)
-            }
-        },
-        Node::AtMost(l, r) => match leaf(nodes, store, r, environment) {
-            Some(right) => {
-                let op = Operation::CompareLeft { node: place, right };
-                operand(nodes, store, table, op, l, environment, left)
-            }
-            None => {
-                let op = Operation::CompareRight {
-                    node: place,
-                    left: l,
-                    environment,
-                };
-                open(table, op, r, environment)
-            }
-        },
         Node::IfElse(condition, then, otherwise) => {
             let op = Operation::Condition {
                 node: place,
@@ -156,7 +181,7 @@ fn enter_operation<W: Environments>(
             };
             operand(nodes, store, table, op, condition, environment, left)
         }
-        _ => unreachable!(),
+        _ => enter_numbers(nodes, store, table, place, environment, left),
     }
 }
 

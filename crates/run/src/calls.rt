@@ -33,6 +33,9 @@ pub struct Run<S: BareStore + Store<Elem = Value>> {
     machine: Machine,
 }
 
+// What a run is beside its store: its rule, with the table of nodes, its readings and its machine.
+const _: () = prove!(size_of::<Rule>() + size_of::<Readings>() + size_of::<Machine>() <= 8 * 1024);
+
 /// What a run took, given back.
 pub struct Closed<S> {
     pub rule: Rule,
