@@ -1,0 +1,21 @@
+//! How many bytes the places and cells take, all of them aligned to 8.
+use linked::cell::Cell;
+use firmware::RunPlace;
+use linked::linked::LinkedStore;
+use typing::rule::Rule;
+use values::Value;
+
+#[unsafe(no_mangle)]
+pub extern "C" fn fun_rule_size() -> usize {
+    size_of::<Rule>()
+}
+
+#[unsafe(no_mangle)]
+pub extern "C" fn fun_run_size() -> usize {
+    size_of::<RunPlace<LinkedStore<'static, Value>>>()
+}
+
+#[unsafe(no_mangle)]
+pub extern "C" fn fun_cell_size() -> usize {
+    size_of::<Cell<Value>>()
+}
