@@ -15,12 +15,28 @@ use Rattle.values.specs.contracts.Value as value
 use Rattle.linked.specs.contracts.linked.LinkedStore as linked
 use Rattle.linked.specs.contracts.cell.Cell as cell
 use Rattle.typing.specs.contracts.rule.Rule as rule
+use Rattle.values.specs.contracts.ValueBlank.TheImpl as blank
+use Rattle.linked.specs.contracts.linked.LinkedStoreStore.TheImpl as store
+use Rattle.std.below.core.specs.contracts.clone.Clone+copy.TheImpl as copied
 use Rattle.firmware.specs.contracts.run_place.RunPlace as run_place
 use Rattle.firmware.specs.declared.reply.Reply.{Reply}
 use Rattle.firmware.specs.declared.report.Told.{Told}
 use Rattle.firmware.specs.declared.fault.CallFault.TheVariants.{NullPointer}
 use Rattle.firmware.specs.Replies.{misused}
 use Rattle.firmware.specs.Reports.{no_run}
+
+-- how a rule and a run place lie in memory
+abbrev pub rule_row : RattleType
+rule_row = rule.the_row
+
+abbrev pub cells_row : RattleType
+cells_row = linked.the_row static_lft value.the_row blank.ghosts
+
+abbrev pub run_row : RattleType
+run_row = run_place.the_row cells_row (store.ghosts value.the_row blank.ghosts store.no_dict (copied.ghosts value.the_row) store.no_dict)
+
+abbrev pub RunAt : Type 0
+RunAt = run_row.Denot
 
 -- whether a pointer is null, as the machine tells it
 abbrev pub is_null : Ptr → Bool

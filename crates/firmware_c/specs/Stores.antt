@@ -4,6 +4,7 @@ use Rattle.store.specs.Lists.{Lists}
 use Rattle.values.specs.declared.Value.{Value}
 use Rattle.values.specs.declared.Value.TheVariants.{Number}
 use Rattle.linked.specs.declared.linked.LinkedStore.{LinkedStore}
+use Rattle.values.specs.contracts.ValueBlank.TheImpl as blank
 use Rattle.linked.specs.Walk.{lists_of, whole_of, room_of}
 use Rattle.record.specs.declared.received.Received.{Received}
 use Rattle.firmware.specs.declared.reply.Reply.{Reply}
@@ -11,7 +12,7 @@ use Rattle.firmware.specs.declared.run_place.RunPlace.{RunPlace}
 use Rattle.firmware.specs.Places.{Started, Rewound, Granted}
 
 abbrev pub Cells : Type 0
-Cells = LinkedStore Value
+Cells = LinkedStore Value blank.ghosts
 
 abbrev pub lists : Cells → Lists Value
 lists store = lists_of (Number (pos 0)) store.cells.now store.made

@@ -11,36 +11,22 @@ ghost use Rattle.firmware_c.specs.Lent.{RunAt, run_row, place, shown, is_null, e
 ghost use Rattle.firmware_c.specs.Stores.{granted, rewound};
 
 use firmware::running::{ask, grant, rewind};
-use firmware::{CallFault, Reply, RunPlace, Told};
-use linked::linked::LinkedStore;
-use values::Value;
+use crate::lent::{RunOverCells, refused_null, told_null};
+use firmware::{Reply, Told};
 
-/// The reply where a pointer is null.
-pub(crate) fn refused_null() -> Reply
-    ensures { result ≡ null_reply }
-{
-    Reply::misused(CallFault::NullPointer)
-}
-
-fn told_null() -> Told
-    ensures { result ≡ null_told }
-{
-    Told::none()
-}
-
-fn grant_in(run: &mut RunPlace<LinkedStore<'static, Value>>, steps: u32) -> Reply
+fn grant_in(run: &mut RunOverCells, steps: u32) -> Reply
     ensures { granted run.old steps run.new result }
 {
     grant(run, steps)
 }
 
-fn rewind_in(run: &mut RunPlace<LinkedStore<'static, Value>>, readings: &[i32]) -> Reply
+fn rewind_in(run: &mut RunOverCells, readings: &[i32]) -> Reply
     ensures { rewound run.old readings.now run.new result }
 {
     rewind(run, readings)
 }
 
-fn ask_in(run: &mut RunPlace<LinkedStore<'static, Value>>) -> Told
+fn ask_in(run: &mut RunOverCells) -> Told
     ensures { (run.new ≡ run.old) × (result ≡ told run.old) }
 {
     ask(run)
@@ -48,7 +34,7 @@ fn ask_in(run: &mut RunPlace<LinkedStore<'static, Value>>) -> Told
 
 /// Grants steps to the run that is open in the run place.
 #[unsafe(no_mangle)]
-pub unsafe extern "C" fn fun_grant(run: *mut RunPlace<LinkedStore<'static, Value>>, steps: u32) -> Reply
+pub unsafe extern "C" fn fun_grant(run: *mut (), steps: u32) -> Reply
     ghost lent: { RunAt }
     requires testable { Testable run }
     requires* memory { sem 𝓛 (place run_row lent run) }
@@ -57,12 +43,12 @@ pub unsafe extern "C" fn fun_grant(run: *mut RunPlace<LinkedStore<'static, Value
     if run.is_null() {
         return refused_null();
     }
-    grant_in(&mut *run, steps)
+    grant_in(&mut *(run as *mut RunOverCells), steps)
 }
 
 /// What the run place tells: the count and the state of its run, or that none is open.
 #[unsafe(no_mangle)]
-pub unsafe extern "C" fn fun_ask(run: *mut RunPlace<LinkedStore<'static, Value>>) -> Told
+pub unsafe extern "C" fn fun_ask(run: *mut ()) -> Told
     ghost lent: { RunAt }
     requires testable { Testable run }
     requires* memory { sem 𝓛 (place run_row lent run) }
@@ -71,12 +57,12 @@ pub unsafe extern "C" fn fun_ask(run: *mut RunPlace<LinkedStore<'static, Value>>
     if run.is_null() {
         return told_null();
     }
-    ask_in(&mut *run)
+    ask_in(&mut *(run as *mut RunOverCells))
 }
 
 /// Begins the run of the run place anew, with these readings.
 #[unsafe(no_mangle)]
-pub unsafe extern "C" fn fun_rewind(run: *mut RunPlace<LinkedStore<'static, Value>>, readings: *const i32, count: usize) -> Reply
+pub unsafe extern "C" fn fun_rewind(run: *mut (), readings: *const i32, count: usize) -> Reply
     ghost lent: { RunAt × (Share × List ℤ) }
     requires testable { Testable run × Testable readings }
     requires fits { Room i32 count }
@@ -86,5 +72,5 @@ pub unsafe extern "C" fn fun_rewind(run: *mut RunPlace<LinkedStore<'static, Valu
     if run.is_null() | readings.is_null() {
         return refused_null();
     }
-    rewind_in(&mut *run, std::slice::from_raw_parts(readings, count))
+    rewind_in(&mut *(run as *mut RunOverCells), std::slice::from_raw_parts(readings, count))
 }

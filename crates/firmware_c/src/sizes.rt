@@ -1,7 +1,6 @@
 //! How many bytes the places and cells take, all of them aligned to 8.
 use linked::cell::Cell;
-use firmware::RunPlace;
-use linked::linked::LinkedStore;
+use crate::lent::RunOverCells;
 use typing::rule::Rule;
 use values::Value;
 
@@ -12,7 +11,7 @@ pub extern "C" fn fun_rule_size() -> usize {
 
 #[unsafe(no_mangle)]
 pub extern "C" fn fun_run_size() -> usize {
-    size_of::<RunPlace<LinkedStore<'static, Value>>>()
+    size_of::<RunOverCells>()
 }
 
 #[unsafe(no_mangle)]
