@@ -9,6 +9,8 @@
 #![tactic(auto)]
 
 pub mod accepting;
+pub mod compiling;
+pub mod explaining;
 pub mod fault;
 pub mod reply;
 pub mod report;

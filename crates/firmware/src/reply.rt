@@ -1,8 +1,9 @@
 //! What a call replies.
 ghost use Rattle.std.specs.Prelude.{◌≡◌};
-ghost use Rattle.firmware.specs.Replies.{code_of, done, misused, refused, replied};
+ghost use Rattle.firmware.specs.Replies.{code_of, done, misused, refused, replied, unnamed};
 
 use crate::fault::CallFault;
+use book::fault::NameFault;
 use run::RunFault;
 use trial::{Layer, TrialFault};
 
@@ -51,6 +52,18 @@ impl Reply {
         Reply {
             refusal: u32::from(fault.number()),
             layer: code(fault.layer()),
+            place: fault.place(),
+            count: 0,
+        }
+    }
+
+    /// A book refused a name.
+    pub fn unnamed(fault: NameFault) -> Reply
+        ensures { result ≡ unnamed }
+    {
+        Reply {
+            refusal: u32::from(fault.number()),
+            layer: code(Layer::Text),
             place: fault.place(),
             count: 0,
         }

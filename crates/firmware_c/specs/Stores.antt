@@ -1,14 +1,15 @@
 -- What the calls of firmware leave, with the linked store over lent cells, which is the store that C has.
-use Rattle.std.specs.Prelude.{ℕ, ℤ, List, pos}
+use Rattle.std.specs.Prelude.{◌≡◌, ℕ, ℤ, List, replicate, pos}
 use Rattle.store.specs.Lists.{Lists}
 use Rattle.values.specs.declared.Value.{Value}
 use Rattle.values.specs.declared.Value.TheVariants.{Number}
 use Rattle.linked.specs.declared.linked.LinkedStore.{LinkedStore}
 use Rattle.values.specs.contracts.ValueBlank.TheImpl as blank
-use Rattle.linked.specs.Walk.{lists_of, whole_of, room_of}
+use Rattle.linked.specs.Walk.{lists_of, whole_of, room_of, New, blank_cell}
 use Rattle.record.specs.declared.received.Received.{Received}
 use Rattle.firmware.specs.declared.reply.Reply.{Reply}
 use Rattle.firmware.specs.declared.run_place.RunPlace.{RunPlace}
+use Rattle.firmware.specs.declared.run_place.RunPlace.TheVariants.{Closed}
 use Rattle.firmware.specs.Places.{Started, Rewound, Granted}
 
 abbrev pub Cells : Type 0
@@ -34,3 +35,11 @@ rewound = Rewound lists whole room cost
 
 abbrev pub granted : RunPlace Cells → ℕ → RunPlace Cells → Reply → Type 0
 granted = Granted lists whole room cost
+
+-- a new store over so many cells, all of them blank, with no run
+abbrev pub fresh_over : ℕ → RunPlace Cells → Type 0
+fresh_over n place' =
+    (store : Cells) ×
+    (place' ≡ Closed store) ×
+    New (Number (pos 0)) store.cells.now store.made ×
+    (store.cells.now ≡ replicate n (blank_cell (Number (pos 0))))

@@ -1,6 +1,6 @@
 //! What C lends memory for, and what is replied where it lends nothing.
 ghost use Rattle.std.specs.Prelude.{◌≡◌};
-ghost use Rattle.firmware_c.specs.Lent.{null_told, null_reply};
+ghost use Rattle.firmware_c.specs.Lent.{done_reply, null_told, null_reply};
 
 use firmware::{CallFault, Reply, RunPlace, Told};
 use linked::linked::LinkedStore;
@@ -14,6 +14,13 @@ pub(crate) fn refused_null() -> Reply
     ensures { result ≡ null_reply }
 {
     Reply::misused(CallFault::NullPointer)
+}
+
+/// The reply of a call that answers no count.
+pub(crate) fn done() -> Reply
+    ensures { result ≡ done_reply }
+{
+    Reply::done(0)
 }
 
 /// What is told where the pointer to the run place is null.

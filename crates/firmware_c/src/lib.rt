@@ -7,6 +7,8 @@
 //! Proved: with pointers as the contracts want them, each export does what its function of `firmware` does.
 #![tactic(auto)]
 
+mod accepting;
 mod lent;
 mod running;
 mod sizes;
+mod starting;

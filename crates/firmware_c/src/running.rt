@@ -1,5 +1,5 @@
 //! The calls of a run that is open.
-ghost use Rattle.std.specs.Prelude.{◌≡◌, ℤ, List};
+ghost use Rattle.std.specs.Prelude.{◌≡◌, [], ◌∷◌, ℤ, List};
 ghost use Rattle.std.specs.Borrow.{sem};
 ghost use denote.RawPtr.{Testable};
 ghost use denote.Slice.{Room};
@@ -7,7 +7,7 @@ ghost use denote.Builtin.{i32};
 ghost use base.Fml.{Share};
 ghost use base.Logic.{ex};
 ghost use Rattle.firmware.specs.Places.{told};
-ghost use Rattle.firmware_c.specs.Lent.{RunAt, run_row, place, shown, is_null, either_null, unless, null_told, null_reply};
+ghost use Rattle.firmware_c.specs.Lent.{RunAt, run_row, place, shown, any_null, unless, null_told, null_reply};
 ghost use Rattle.firmware_c.specs.Stores.{granted, rewound};
 
 use firmware::running::{ask, grant, rewind};
@@ -38,7 +38,7 @@ pub unsafe extern "C" fn fun_grant(run: *mut (), steps: u32) -> Reply
     ghost lent: { RunAt }
     requires testable { Testable run }
     requires* memory { sem 𝓛 (place run_row lent run) }
-    ensures* { ex 𝓤 (λ (left : RunAt). sem 𝓛 (place run_row left run) ∗ ⌜ unless (is_null run) ((left ≡ lent) × (result ≡ null_reply)) (granted lent steps left result) ⌝) }
+    ensures* { ex 𝓤 (λ (left : RunAt). sem 𝓛 (place run_row left run) ∗ ⌜ unless (any_null (run ∷ [])) ((left ≡ lent) × (result ≡ null_reply)) (granted lent steps left result) ⌝) }
 {
     if run.is_null() {
         return refused_null();
@@ -52,7 +52,7 @@ pub unsafe extern "C" fn fun_ask(run: *mut ()) -> Told
     ghost lent: { RunAt }
     requires testable { Testable run }
     requires* memory { sem 𝓛 (place run_row lent run) }
-    ensures* { ex 𝓤 (λ (left : RunAt). sem 𝓛 (place run_row left run) ∗ ⌜ unless (is_null run) ((left ≡ lent) × (result ≡ null_told)) ((left ≡ lent) × (result ≡ told lent)) ⌝) }
+    ensures* { ex 𝓤 (λ (left : RunAt). sem 𝓛 (place run_row left run) ∗ ⌜ unless (any_null (run ∷ [])) ((left ≡ lent) × (result ≡ null_told)) ((left ≡ lent) × (result ≡ told lent)) ⌝) }
 {
     if run.is_null() {
         return told_null();
@@ -67,7 +67,7 @@ pub unsafe extern "C" fn fun_rewind(run: *mut (), readings: *const i32, count: u
     requires testable { Testable run × Testable readings }
     requires fits { Room i32 count }
     requires* memory { sem 𝓛 (place run_row lent.0 run) ∗ sem 𝓛 (shown i32 lent.1.0 count lent.1.1 readings) }
-    ensures* { ex 𝓤 (λ (left : RunAt). (sem 𝓛 (place run_row left run) ∗ sem 𝓛 (shown i32 lent.1.0 count lent.1.1 readings)) ∗ ⌜ unless (either_null run readings) ((left ≡ lent.0) × (result ≡ null_reply)) (rewound lent.0 lent.1.1 left result) ⌝) }
+    ensures* { ex 𝓤 (λ (left : RunAt). (sem 𝓛 (place run_row left run) ∗ sem 𝓛 (shown i32 lent.1.0 count lent.1.1 readings)) ∗ ⌜ unless (any_null (run ∷ readings ∷ [])) ((left ≡ lent.0) × (result ≡ null_reply)) (rewound lent.0 lent.1.1 left result) ⌝) }
 {
     if run.is_null() | readings.is_null() {
         return refused_null();

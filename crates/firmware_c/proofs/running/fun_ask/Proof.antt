@@ -1,5 +1,5 @@
 -- the run place is lent to the safe function for a lifetime that is made for the call, and comes back
-use Rattle.std.proofs.Common.{◌≡◌, ◌||◌, ℕ, ℤ, List, [], ◌∷◌, ◌++◌, length, refl, sym, subst, w8, w16, w32, w64, Bor, MutBor}
+use Rattle.std.proofs.Common.{◌≡◌, ℕ, ℤ, List, [], ◌∷◌, ◌++◌, length, refl, sym, subst, w8, w16, w32, w64, Bor, MutBor}
 use Rattle.std.proofs.raw_atomic.Walks.{proved}
 use base.Fraction.{full_share}
 use base.Logic.{sep, id⊢}
@@ -37,7 +37,7 @@ use denote.Triple.Walked.{Stays, walk_of, says, stay_dropped, Goes-dropped, ends
 use Rattle.firmware.specs.declared.report.Told.{Told}
 use Rattle.firmware.specs.contracts.report.Told as told_
 use Rattle.firmware.proofs.report.Told.TheLaws.{the_row_laws}
-use Rattle.firmware_c.specs.Lent.{RunAt, run_row, place, is_null, unless, null_told}
+use Rattle.firmware_c.specs.Lent.{RunAt, run_row, place, is_null, any_null, unless, null_told}
 use Rattle.firmware.specs.Places.{told}
 use Rattle.firmware_c.specs.contracts.running.fun_ask as f
 use Rattle.firmware_c.specs.contracts.lent.told_null as n
@@ -63,7 +63,7 @@ fun_ask_spec 𝓤 𝓛 𝓜 𝓡 wired =
     let at : Ptr → Goal 𝓤 𝓛.H = λ run. prop (WpFn 𝓤 𝓛.H 𝓣.C 𝓣.Λ code.function (rawptr_vals run ++ []) (W.post (y run))) in
     qed 𝓛 (raw (on_entry 𝓛 f.signature κs qs a (y a.0).0.4) ∷ (raw (fact 𝓤 (Testable a.0)) ⊛ ‵ (place run_row lent a.0)) ∷ []) ∵ drop ! $
     split ! $ heard ! (Testable a.0) (λ may.
-    by_test ! (is_null a.0)
+    by_test ! (any_null (a.0 ∷ []))
     (λ null. enter ! 𝓣.C 𝓣.Λ code.function _ _ $ alloc_all ! (λ l. pass_all ! refl
     (((rawptr_Lawful 𝓛).typed a.0 _ refl).0, tt) $
     sets ! (bin ! (get ! refl) (lit ! tt) (tests_null a.0 may)) refl (tt, tt) $
@@ -81,7 +81,7 @@ fun_ask_spec 𝓤 𝓛 𝓜 𝓡 wired =
     returns_within ! (W.post (y a.0)) refl (look_at ! 0 refl) $ free_all ! refl $
     suffices ! _ (ends_at 𝓛 f.ended stayed c (y a.0) v r (tt, tt) (tt, tt)) $
     nothing ! $ nothing ! $ join ! $ nothing ! $ group ! 3 $ frame ! $
-    show ! (λ (left : RunAt). sep 𝓤 (sem 𝓛 (place run_row left a.0)) (fact 𝓤 (unless (is_null a.0) ((left ≡ lent) × (r ≡ null_told)) ((left ≡ lent) × (r ≡ told lent))))) lent $
+    show ! (λ (left : RunAt). sep 𝓤 (sem 𝓛 (place run_row left a.0)) (fact 𝓤 (unless (any_null (a.0 ∷ [])) ((left ≡ lent) × (r ≡ null_told)) ((left ≡ lent) × (r ≡ told lent))))) lent $
     says ! (λ _. (refl, replied_so), λ t. absurd (both_ways _ null t)) $ done !))))))
     (λ t. absurd (both_ways _ null t))))
     (λ leads.
@@ -127,5 +127,5 @@ fun_ask_spec 𝓤 𝓛 𝓜 𝓡 wired =
     keep ! (3 ∷ 0 ∷ []) $
     suffices ! _ (ends_at 𝓛 f.ended stayed c (y (block_ptr (block_of a.0) (count_of a.0))) v r (tt, tt) (tt, tt)) $
     nothing ! $ nothing ! $ join ! $ nothing ! $ group ! 3 $ frame ! $
-    show ! (λ (left : RunAt). sep 𝓤 (sem 𝓛 (place run_row left (block_ptr (block_of a.0) (count_of a.0)))) (fact 𝓤 (unless (is_null (block_ptr (block_of a.0) (count_of a.0))) ((left ≡ lent) × (r ≡ null_told)) ((left ≡ lent) × (r ≡ told lent)))))
+    show ! (λ (left : RunAt). sep 𝓤 (sem 𝓛 (place run_row left (block_ptr (block_of a.0) (count_of a.0)))) (fact 𝓤 (unless (any_null ((block_ptr (block_of a.0) (count_of a.0)) ∷ [])) ((left ≡ lent) × (r ≡ null_told)) ((left ≡ lent) × (r ≡ told lent)))))
     ws.0 $ says ! (λ t. absurd t, λ _. done_so) $ done !))))))))))))

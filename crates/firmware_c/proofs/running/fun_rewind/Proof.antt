@@ -1,5 +1,5 @@
 -- run place and readings are lent to the safe function, each for a lifetime that is made for the call, and come back
-use Rattle.std.proofs.Common.{◌≡◌, ◌||◌, ℕ, ℤ, List, [], ◌∷◌, ◌++◌, length, refl, sym, subst, w8, w16, w32, w64, Bor, MutBor}
+use Rattle.std.proofs.Common.{◌≡◌, ℕ, ℤ, List, [], ◌∷◌, ◌++◌, length, refl, sym, subst, w8, w16, w32, w64, Bor, MutBor}
 use Rattle.std.proofs.raw_atomic.Walks.{proved}
 use base.Fraction.{full_share}
 use base.Logic.{sep, id⊢}
@@ -37,7 +37,7 @@ use denote.Triple.Walked.{Stays, walk_of, says, stay_dropped, Goes-dropped, ends
 use Rattle.firmware.specs.declared.reply.Reply.{Reply}
 use Rattle.firmware.specs.contracts.reply.Reply as reply
 use Rattle.firmware.proofs.reply.Reply.TheLaws.{the_row_laws}
-use Rattle.firmware_c.specs.Lent.{RunAt, run_row, place, shown, is_null, unless, null_reply}
+use Rattle.firmware_c.specs.Lent.{RunAt, run_row, place, shown, is_null, any_null, unless, null_reply}
 use Rattle.firmware_c.specs.Stores.{rewound}
 use Rattle.firmware_c.specs.contracts.running.fun_rewind as f
 use Rattle.firmware_c.specs.contracts.lent.refused_null as n
@@ -66,12 +66,11 @@ fun_rewind_spec 𝓤 𝓛 𝓜 𝓡 wired =
     split ! $ heard ! (Testable a.0 × Testable a.1.0) (λ may.
     split ! $ heard ! (Room i32 a.1.1.0) (λ room.
     split ! $
-    by_test ! (is_null a.0 || is_null a.1.0)
+    by_test ! (any_null (a.0 ∷ a.1.0 ∷ []))
     (λ null. enter ! 𝓣.C 𝓣.Λ code.function _ _ $ alloc_all ! (λ l. pass_all ! refl
     (((rawptr_Lawful 𝓛).typed a.0 _ refl).0, (((rawptr_Lawful 𝓛).typed a.1.0 _ refl).0, ((tt, record { fits = are.1.1.0.1 }), tt))) $
     sets ! (bin ! (get ! refl) (lit ! tt) (tests_null a.0 may.0)) refl (tt, tt) $
-    sets ! (bin ! (get ! refl) (lit ! tt) (tests_null a.1.0 may.1)) refl (tt, tt) $
-    sets ! (bin ! (get ! refl) (get ! refl) tt) refl (tt, tt) $
+    sets ! (bin ! (get ! refl) (lit ! tt) (tests_null a.1.0 may.1)) refl (tt, tt) $ sets ! (bin ! (get ! refl) (get ! refl) tt) refl (tt, tt) $
     first ! $ branches ! (get ! refl) (λ t.
     let N = triple_of 𝓛 n.signature (n.spec 𝓛 𝓜.mem 𝓡.returns) in
     let z : N.Ghost = ((tt, tt, tt, tt, tt), tt) in
@@ -86,12 +85,12 @@ fun_rewind_spec 𝓤 𝓛 𝓜 𝓡 wired =
     returns_within ! (W.post (y a.0 a.1.0 a.1.1.0)) refl (look_at ! 0 refl) $ free_all ! refl $
     suffices ! _ (ends_at 𝓛 f.ended stayed c (y a.0 a.1.0 a.1.1.0) v r (tt, (tt, (tt, tt))) (tt, (tt, (tt, tt)))) $
     nothing ! $ nothing ! $ join ! $ nothing ! $ join ! $ nothing ! $ join ! $ nothing ! $ group ! 3 $ frame ! $
-    show ! (λ (left : RunAt). sep 𝓤 (sep 𝓤 (sem 𝓛 (place run_row left a.0)) (sem 𝓛 (shown i32 lent.1.0 a.1.1.0 lent.1.1 a.1.0))) (fact 𝓤 (unless (is_null a.0 || is_null a.1.0) ((left ≡ lent.0) × (r ≡ null_reply)) (rewound lent.0 lent.1.1 left r)))) lent.0 $
+    show ! (λ (left : RunAt). sep 𝓤 (sep 𝓤 (sem 𝓛 (place run_row left a.0)) (sem 𝓛 (shown i32 lent.1.0 a.1.1.0 lent.1.1 a.1.0))) (fact 𝓤 (unless (any_null (a.0 ∷ a.1.0 ∷ [])) ((left ≡ lent.0) × (r ≡ null_reply)) (rewound lent.0 lent.1.1 left r)))) lent.0 $
     says ! (λ _. (refl, replied_so), λ t. absurd (both_ways _ null t)) $ done !))))))
     (λ t. absurd (both_ways _ null t))))
     (λ leads.
-    let is_run = in_block_where a.0 (first_false _ _ leads) in
-    let is_readings = in_block_where a.1.0 (second_false _ _ leads) in
+    let is_run = in_block_where a.0 (first_false (any_null (a.0 ∷ [])) (is_null a.1.0) leads) in
+    let is_readings = in_block_where a.1.0 (second_false (any_null (a.0 ∷ [])) (is_null a.1.0) leads) in
     rewrite ! 0 (λ (p : Ptr). ‵ (place run_row lent.0 p)) is_run refl $
     regoal ! (λ (p : Ptr). at p a.1.0 a.1.1.0) is_run refl $
     rewrite ! 1 (λ (p : Ptr). ‵ (shown i32 lent.1.0 a.1.1.0 lent.1.1 p)) is_readings refl $
@@ -104,8 +103,7 @@ fun_rewind_spec 𝓤 𝓛 𝓜 𝓡 wired =
     enter ! 𝓣.C 𝓣.Λ code.function _ _ $ alloc_all ! (λ l. pass_all ! refl
     ((tt, tt), ((tt, tt), ((tt, record { fits = room_readings.0 }), tt))) $
     sets ! (bin ! (get ! refl) (lit ! tt) (tests_null (block_ptr (block_of a.0) (count_of a.0)) (subst Testable is_run may.0))) refl (tt, tt) $
-    sets ! (bin ! (get ! refl) (lit ! tt) (tests_null (block_ptr (block_of a.1.0) (count_of a.1.0)) (subst Testable is_readings may.1))) refl (tt, tt) $
-    sets ! (bin ! (get ! refl) (get ! refl) tt) refl (tt, tt) $
+    sets ! (bin ! (get ! refl) (lit ! tt) (tests_null (block_ptr (block_of a.1.0) (count_of a.1.0)) (subst Testable is_readings may.1))) refl (tt, tt) $ sets ! (bin ! (get ! refl) (get ! refl) tt) refl (tt, tt) $
     first ! $ branches ! (get ! refl) (λ t. absurd t) (λ t. skips ! $
     exec ! 𝓣.C 𝓣.Λ (env code.Mir.locals l) code.Mir.t-5 (at_ret _ (W.post (y (block_ptr (block_of a.0) (count_of a.0)) (block_ptr (block_of a.1.0) (count_of a.1.0)) (length lent.1.1)))) $
     sets ! (of_opd ! (get ! refl)) refl (tt, tt) $ sets ! (addr ! (through ! refl (stop !))) refl (tt, tt) $
@@ -160,5 +158,5 @@ fun_rewind_spec 𝓤 𝓛 𝓜 𝓡 wired =
     keep ! (5 ∷ 1 ∷ 0 ∷ []) $
     suffices ! _ (ends_at 𝓛 f.ended stayed c (y (block_ptr (block_of a.0) (count_of a.0)) (block_ptr (block_of a.1.0) (count_of a.1.0)) (length lent.1.1)) v r (tt, (tt, (tt, tt))) (tt, (tt, (tt, tt)))) $
     nothing ! $ nothing ! $ join ! $ nothing ! $ join ! $ nothing ! $ join ! $ nothing ! $ group ! 3 $ frame ! $
-    show ! (λ (left : RunAt). sep 𝓤 (sep 𝓤 (sem 𝓛 (place run_row left (block_ptr (block_of a.0) (count_of a.0)))) (sem 𝓛 (shown i32 lent.1.0 (length lent.1.1) lent.1.1 (block_ptr (block_of a.1.0) (count_of a.1.0))))) (fact 𝓤 (unless (is_null (block_ptr (block_of a.0) (count_of a.0)) || is_null (block_ptr (block_of a.1.0) (count_of a.1.0))) ((left ≡ lent.0) × (r ≡ null_reply)) (rewound lent.0 lent.1.1 left r))))
+    show ! (λ (left : RunAt). sep 𝓤 (sep 𝓤 (sem 𝓛 (place run_row left (block_ptr (block_of a.0) (count_of a.0)))) (sem 𝓛 (shown i32 lent.1.0 (length lent.1.1) lent.1.1 (block_ptr (block_of a.1.0) (count_of a.1.0))))) (fact 𝓤 (unless (any_null ((block_ptr (block_of a.0) (count_of a.0)) ∷ (block_ptr (block_of a.1.0) (count_of a.1.0)) ∷ [])) ((left ≡ lent.0) × (r ≡ null_reply)) (rewound lent.0 lent.1.1 left r))))
     ws.0 $ says ! (λ t. absurd t, λ _. done_so) $ done !)))))))))))))))
