@@ -15,6 +15,7 @@ use Rattle.store.specs.declared.contract.Store as Store
 use Rattle.values.specs.contracts.Value as value
 use Rattle.linked.specs.contracts.linked.LinkedStore as linked
 use Rattle.linked.specs.contracts.cell.Cell as cell
+use Rattle.book.specs.contracts.book.Book as book
 use Rattle.typing.specs.contracts.rule.Rule as rule
 use Rattle.values.specs.contracts.ValueBlank.TheImpl as blank
 use Rattle.linked.specs.contracts.linked.LinkedStoreStore.TheImpl as store
@@ -42,6 +43,12 @@ run_row = run_place.the_row cells_row run_ghosts
 
 abbrev pub cell_row : RattleType
 cell_row = cell.the_row value.the_row
+
+abbrev pub book_row : RattleType
+book_row = book.the_row
+
+abbrev pub BookAt : Type 0
+BookAt = book_row.Denot
 
 abbrev pub RuleAt : Type 0
 RuleAt = rule_row.Denot

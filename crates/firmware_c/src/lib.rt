@@ -8,6 +8,7 @@
 #![tactic(auto)]
 
 mod accepting;
+mod compiling;
 mod lent;
 mod running;
 mod sizes;

@@ -1,4 +1,5 @@
 //! How many bytes the places and cells take, all of them aligned to 8.
+use book::book::Book;
 use linked::cell::Cell;
 use crate::lent::RunOverCells;
 use typing::rule::Rule;
@@ -12,6 +13,11 @@ pub extern "C" fn fun_rule_size() -> usize {
 #[unsafe(no_mangle)]
 pub extern "C" fn fun_run_size() -> usize {
     size_of::<RunOverCells>()
+}
+
+#[unsafe(no_mangle)]
+pub extern "C" fn fun_book_size() -> usize {
+    size_of::<Book>()
 }
 
 #[unsafe(no_mangle)]
