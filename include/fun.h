@@ -27,7 +27,7 @@ extern "C" {
 
 /* Bytes of a rule, of a run with its rule, of a names book and of a cell; the functions tell what the archive has. */
 #define FUN_RULE_SIZE 4112
-#define FUN_RUN_SIZE 7256
+#define FUN_RUN_SIZE 7288
 #define FUN_BOOK_SIZE 328
 #define FUN_CELL_SIZE 16
 size_t fun_rule_size(void);
@@ -151,7 +151,7 @@ struct fun_reply fun_compile(struct fun_book *book, const uint8_t *text, size_t 
 
 /* Writes what a refusal means to the front of text, as much as there is room for, with no 0 behind it, and answers how many bytes it
    has in all: 0 where there is no such refusal, or text is null. */
-size_t fun_explain(uint32_t refusal, uint8_t *text, size_t room);
+size_t fun_explain(uint32_t refusal, uint8_t *text, size_t count);
 
 #ifdef __cplusplus
 }

@@ -1,4 +1,4 @@
-//! A names book, from a text to its record, and what refusals mean.
+//! A names book, and from a text to its record.
 ghost use Rattle.std.specs.Prelude.{◌≡◌, [], ◌∷◌, ℕ, List, Option};
 ghost use Rattle.std.specs.Borrow.{sem};
 ghost use Rattle.book.specs.Books.{names};
@@ -14,7 +14,6 @@ use crate::lent::{done, refused_null};
 use book::book::Book;
 use firmware::Reply;
 use firmware::compiling::{add, compile};
-use firmware::explaining::explain;
 use std::slice::{from_raw_parts, from_raw_parts_mut};
 
 fn add_in(book: &mut Book, name: &[u8]) -> Reply

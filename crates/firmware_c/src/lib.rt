@@ -9,6 +9,7 @@
 
 mod accepting;
 mod compiling;
+mod explaining;
 mod lent;
 mod running;
 mod sizes;
