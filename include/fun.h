@@ -1,7 +1,7 @@
 /* FUN on a controller: a rule comes as a record, is accepted once, and is then run on the sensors' readings.
 
    Nothing is allocated and nothing is kept but what is lent here. Every call tells by its reply whether it was done; a call
-   that was refused has changed nothing, but for what a trial says of itself.
+   that was refused has changed nothing.
 
    What C owes, and nothing checks:
    - a pointer is null or leads to memory of the kind and count that the call names, aligned as its type is, and no
@@ -44,7 +44,7 @@ struct fun_cell { uint64_t opaque[FUN_CELL_SIZE / 8]; };
    be granted from a start or a rewind on. */
 #define FUN_MOST_NODES 512
 #define FUN_MOST_READINGS 8
-#define FUN_MOST_RECORD 3077
+#define FUN_MOST_RECORD 2564
 #define FUN_MOST_TEXT 4096
 #define FUN_MOST_NAME 32
 #define FUN_MOST_CELLS 65535
@@ -91,14 +91,6 @@ struct fun_report {
 #define FUN_RANGE 5
 #define FUN_NO_STORE 6
 #define FUN_NO_STACK 7
-
-/* What a trial came to: its first refusal, or a reply of 0 with what compile, accept and ask answered. */
-struct fun_trial {
-    struct fun_reply reply;
-    size_t bytes;
-    size_t entries;
-    struct fun_report report;
-};
 
 /* ---- a rule */
 

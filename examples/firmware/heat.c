@@ -6,7 +6,7 @@
 #include <string.h>
 
 #define NODES 64    /* rules of up to so many nodes are taken */
-#define CELLS 32    /* environments that one pass may make */
+#define CELLS 3     /* environments that one pass may make */
 #define SLOTS 4     /* grants in one pass */
 #define STEPS 2     /* steps in one grant */
 #define FALLBACK 20 /* the answer while no rule has one */
@@ -84,6 +84,13 @@ static int32_t pass(const int32_t *readings, size_t count) {
 /* if 80 <= coil then 1 else 0 */
 static const uint8_t defrost[] = {0x00, 0x16, 0x01, 0x01, 0x0a, 0x09, 0x01, 0x00, 0x00, 0x00, 0x50, 0x04,
                                   0x00, 0x00, 0x01, 0x00, 0x00, 0x00, 0x01, 0x01, 0x00, 0x00, 0x00, 0x00};
+/* (fun f -> fun x -> x + f x) (fun y -> y + y) coil */
+static const uint8_t thrice[] = {0x00, 0x1c, 0x01, 0x01, 0x06, 0x06, 0x05, 0x05, 0x08, 0x04, 0x00, 0x00, 0x06, 0x04, 0x00,
+                                 0x01, 0x04, 0x00, 0x00, 0x05, 0x08, 0x04, 0x00, 0x00, 0x04, 0x00, 0x00, 0x04, 0x00, 0x00};
+/* let a = 1 in let b = 2 in let c = 3 in let d = 4 in a + coil */
+static const uint8_t lets[] = {0x00, 0x21, 0x01, 0x01, 0x07, 0x01, 0x00, 0x00, 0x00, 0x01, 0x07, 0x01,
+                               0x00, 0x00, 0x00, 0x02, 0x07, 0x01, 0x00, 0x00, 0x00, 0x03, 0x07, 0x01,
+                               0x00, 0x00, 0x00, 0x04, 0x08, 0x04, 0x00, 0x03, 0x04, 0x00, 0x04};
 /* coil + 2147483647 */
 static const uint8_t steep[] = {0x00, 0x0b, 0x01, 0x01, 0x08, 0x04, 0x00, 0x00, 0x01, 0x7f, 0xff, 0xff, 0xff};
 
@@ -111,10 +118,18 @@ int main(void) {
     line_is_quiet();
     passes();
     puts("a record is torn");
-    receive(steep, 7);
+    receive(thrice, 7);
     line_is_quiet();
     passes();
-    puts("it comes again");
+    puts("it comes again, and takes three grants");
+    receive(thrice, sizeof thrice);
+    line_is_quiet();
+    passes();
+    puts("a rule makes more environments than there are cells");
+    receive(lets, sizeof lets);
+    line_is_quiet();
+    passes();
+    puts("a rule leaves the number range");
     receive(steep, sizeof steep);
     line_is_quiet();
     passes();
