@@ -9,6 +9,16 @@ void *memcpy(void *to, const void *from, size_t count) {
     return to;
 }
 
+void *memmove(void *to, const void *from, size_t count) {
+    unsigned char *t = to;
+    const unsigned char *f = from;
+    if (t <= f)
+        return memcpy(to, from, count);
+    while (count--)
+        t[count] = f[count];
+    return to;
+}
+
 void *memset(void *at, int byte, size_t count) {
     unsigned char *a = at;
     while (count--)

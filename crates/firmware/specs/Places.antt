@@ -1,5 +1,5 @@
 -- What each call leaves of a run place, of a rule place, and what it replies.
-use Rattle.std.specs.Prelude.{◌≡◌, ◌+◌, ℕ, ℤ, List, length, replicate, pos, OnOk, OnErr, Result}
+use Rattle.std.specs.Prelude.{◌≡◌, ◌+◌, ℕ, ℤ, List, length, replicate, pos, OnOk, OnErr}
 use Rattle.syntax.specs.Tree.{Tree, number}
 use Rattle.store.specs.Lists.{Lists}
 use Rattle.values.specs.declared.Value.{Value}

@@ -1,5 +1,5 @@
 -- What ask tells, in plain numbers.
-use Rattle.std.specs.Prelude.{ℕ, ℤ, Bool, true, false, pos}
+use Rattle.std.specs.Prelude.{ℤ, Bool, true, false, pos}
 use Rattle.run.specs.declared.report.Report.{Report}
 use Rattle.run.specs.declared.report.State.{State}
 use Rattle.run.specs.declared.report.State.TheVariants.{Waiting, Done, Range, NoStore, NoStack}

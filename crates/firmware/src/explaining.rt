@@ -36,7 +36,6 @@ fn meaning(number: u32) -> &'static [u8] {
     }
 }
 
-
 /// Writes what a refusal means to the front of `out`, as much of it as there is room for, and answers how many bytes it
 /// has in all: 0 where there is no such refusal.
 pub fn explain(number: u32, out: &mut [u8]) -> usize

@@ -10,8 +10,8 @@ ghost use Rattle.firmware.specs.Places.{told};
 ghost use Rattle.firmware_c.specs.Lent.{RunAt, run_row, place, shown, any_null, unless, null_told, null_reply};
 ghost use Rattle.firmware_c.specs.Stores.{granted, rewound};
 
-use firmware::running::{ask, grant, rewind};
 use crate::lent::{RunOverCells, refused_null, told_null};
+use firmware::running::{ask, grant, rewind};
 use firmware::{Reply, Told};
 
 fn grant_in(run: &mut RunOverCells, steps: u32) -> Reply
@@ -72,5 +72,8 @@ pub unsafe extern "C" fn fun_rewind(run: *mut (), readings: *const i32, count: u
     if run.is_null() | readings.is_null() {
         return refused_null();
     }
-    rewind_in(&mut *(run as *mut RunOverCells), std::slice::from_raw_parts(readings, count))
+    rewind_in(
+        &mut *(run as *mut RunOverCells),
+        std::slice::from_raw_parts(readings, count),
+    )
 }

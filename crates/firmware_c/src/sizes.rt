@@ -1,7 +1,7 @@
 //! How many bytes the places and cells take, all of them aligned to 8.
+use crate::lent::RunOverCells;
 use book::book::Book;
 use linked::cell::Cell;
-use crate::lent::RunOverCells;
 use typing::rule::Rule;
 use values::Value;
 

@@ -33,7 +33,10 @@ fn start_in(run: &mut RunOverCells, rule: &mut Rule) -> Reply
         run: next,
         rule: left,
         reply,
-    } = start(mem::replace(run, over(&mut [])), mem::replace(rule, Rule::new()));
+    } = start(
+        mem::replace(run, over(&mut [])),
+        mem::replace(rule, Rule::new()),
+    );
     *rule = left;
     mem::replace(run, next).let_go();
     reply
@@ -46,7 +49,10 @@ fn close_in(run: &mut RunOverCells, rule: &mut Rule) -> Reply
         run: next,
         rule: left,
         reply,
-    } = close(mem::replace(run, over(&mut [])), mem::replace(rule, Rule::new()));
+    } = close(
+        mem::replace(run, over(&mut [])),
+        mem::replace(rule, Rule::new()),
+    );
     *rule = left;
     mem::replace(run, next).let_go();
     reply

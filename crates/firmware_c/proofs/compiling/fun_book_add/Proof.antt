@@ -1,5 +1,5 @@
 -- book and name are lent to the safe function, each for a lifetime that is made for the call, and come back
-use Rattle.std.proofs.Common.{◌≡◌, ℕ, ℤ, List, [], ◌∷◌, ◌++◌, length, refl, sym, subst, w8, w16, w32, w64, Bor, MutBor}
+use Rattle.std.proofs.Common.{◌≡◌, ℕ, List, [], ◌∷◌, ◌++◌, length, refl, sym, subst, w8, w64, Bor, MutBor}
 use Rattle.std.proofs.raw_atomic.Walks.{proved}
 use base.Fraction.{full_share}
 use base.Logic.{sep, id⊢}
@@ -11,23 +11,23 @@ use prog.Wp.{WpFn}
 use types.Logic.{sem}
 use types.Kit.{Goal, ‵, raw, ◌⊛◌, some, later, prop, at_ret, ◌$◌, ◌∵◌, !, qed, done, move, keep, drop, use1, use2, use3, split, join, fsplit, fjoin, feq_l, feq_i, pick, await, rewrite, regoal, suffices, frame, group, show}
 use types.Tokens.{lft_new, lft_end, lent_back}
-use types.SemTy.{Arr, Body}
+use types.SemTy.{Body}
 use types.Share.{arr_parts}
 use types.Part.{agg}
 use types.Run.{enter, addr, of_opd, stop, no_more, and_then, returns, returns_within, bin, lit, first, branches, skips, exec}
 use types.ByLocal.{alloc_all, pass_all, free_all, look_at, get, through, sets, lands_as, env}
-use denote.Builtin.{u8, u16, u32, i32, usize}
-use denote.Copied.{uint_Copied, sint_Copied}
+use denote.Builtin.{u8, usize}
+use denote.Copied.{uint_Copied}
 use denote.Exit.{yes}
 use denote.Laws.{Is, shows}
-use denote.Lend.{lends_ref, ref_back, lends_slice, slice_back, lends_shr_slice, Held}
+use denote.Lend.{lends_ref, ref_back, lends_shr_slice}
 use denote.Memory.{mem, shares, part_at}
-use denote.Plain.{uint_Makes, uint_vals, uint_Tells}
+use denote.Plain.{uint_vals, uint_Tells}
 use denote.RawPtr.{Ptr, RawPtr, block_ptr, block_of, count_of, rawptr_vals, rawptr_Tells, rawptr_Lawful, Testable, tests_null}
 use denote.Ref.{MutRef, mut_vals}
 use denote.Signature.{plain}
-use denote.Slice.{MutSlice, ShrSlice, Room, slice_val}
-use denote.Steps.{nothing, owned, heard, peeks}
+use denote.Slice.{ShrSlice, Room, slice_val}
+use denote.Steps.{nothing, heard, peeks}
 use denote.Triple.Call.{calls_at}
 use denote.Triple.Clauses.{lasts}
 use denote.Triple.Entry.{on_entry}

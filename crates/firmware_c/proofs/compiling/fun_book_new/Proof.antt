@@ -1,34 +1,24 @@
 -- an empty book is written into the room that C lends
-use Rattle.std.proofs.Common.{◌≡◌, ℕ, ℤ, List, [], ◌∷◌, ◌++◌, length, get_or, map, Option, Some, None, refl, sym, subst, w8, w16, w32, w64, Bor, MutBor}
+use Rattle.std.proofs.Common.{◌≡◌, [], ◌∷◌, ◌++◌, get_or, map, Option, Some, None, refl, subst}
 use Rattle.std.proofs.raw_atomic.Walks.{proved}
 use base.Fraction.{full_share}
 use base.Logic.{sep, via, id⊢}
-use base.Fml.{ftrue, flent, froom}
-use mir.Syntax.{static, Ty, ty_unit, Local, local}
+use base.Fml.{ftrue, froom}
+use mir.Syntax.{Ty, ty_unit, Local, local}
 use contract.Monad.{fact}
 use contract.Running.{tables}
 use prog.Wp.{WpFn}
 use types.Logic.{sem}
-use types.Kit.{Goal, ‵, raw, ◌⊛◌, some, later, prop, at_ret, ◌$◌, ◌∵◌, !, qed, done, move, keep, drop, use1, use2, use3, split, join, fsplit, fjoin, feq_l, feq_i, pick, await, rewrite, regoal, suffices, frame, group, show}
-use types.Tokens.{lft_new, lft_end, lent_back}
-use types.SemTy.{Arr, Body}
-use types.Share.{arr_parts}
-use types.Part.{agg}
-use types.Run.{enter, init, assigns, of_opd, stop, no_more, and_then, returns, returns_within, bin, lit, first, branches, skips, exec}
+use types.Kit.{Goal, ‵, raw, ◌⊛◌, some, later, prop, at_ret, ◌$◌, ◌∵◌, !, qed, done, move, drop, use1, use2, split, join, pick, await, rewrite, regoal, suffices, frame, group, show}
+use types.Run.{enter, init, assigns, of_opd, stop, no_more, returns, returns_within, bin, lit, first, branches, skips, exec}
 use types.ByLocal.{alloc_all, pass_all, free_all, look_at, get, through, sets, lands_as, env}
-use denote.Builtin.{u8, u16, u32, i32, usize}
-use denote.Copied.{uint_Copied, sint_Copied}
 use denote.Exit.{yes}
 use denote.Laws.{Is, shows}
-use denote.Lend.{lends_ref, ref_back, lends_slice, slice_back, lends_shr_slice, Held}
-use denote.Memory.{mem, part_at, lone}
-use denote.Plain.{uint_Makes, uint_vals, uint_Tells}
-use denote.RawPtr.{Ptr, RawPtr, block_ptr, block_of, count_of, room_at, rawptr_vals, rawptr_Tells, rawptr_Lawful, Testable, tests_null}
-use denote.Ref.{MutRef, mut_vals}
+use denote.Memory.{part_at, lone}
+use denote.RawPtr.{Ptr, RawPtr, block_ptr, block_of, count_of, rawptr_vals, rawptr_Tells, rawptr_Lawful, Testable, tests_null}
 use borrow.Table.OneValue.{part_in_at}
-use denote.Signature.{plain, static_lft}
-use denote.Slice.{MutSlice, ShrSlice, Room, slice_val}
-use denote.Steps.{nothing, owned, heard, peeks}
+use denote.Signature.{plain}
+use denote.Steps.{nothing, heard, peeks}
 use denote.Triple.Call.{calls_at}
 use denote.Triple.Clauses.{lasts}
 use denote.Triple.Entry.{on_entry}
@@ -50,7 +40,7 @@ use Rattle.firmware_c.proofs.compiling.fun_book_new.Code as code
 use Rattle.firmware_c.proofs.lent.refused_null.Met as null_met
 use Rattle.book.proofs.book.Book.new.Met.{met}
 use Rattle.book.proofs.book.Book.TheLaws as book-laws
-use Rattle.firmware_c.proofs.Steps.{by_test, both_ways, first_false, second_false, in_block_where}
+use Rattle.firmware_c.proofs.Steps.{by_test, both_ways, in_block_where}
 
 -- the value's type as the code spells it, with its lifetimes erased
 abbrev type_of : Local → Ty

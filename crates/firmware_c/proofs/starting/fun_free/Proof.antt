@@ -1,33 +1,27 @@
 -- the run place is lent to the safe function for a lifetime that is made for the call, and comes back
-use Rattle.std.proofs.Common.{◌≡◌, ℕ, ℤ, List, [], ◌∷◌, ◌++◌, length, refl, sym, subst, w8, w16, w32, w64, Bor, MutBor}
+use Rattle.std.proofs.Common.{◌≡◌, ℕ, [], ◌∷◌, ◌++◌, refl, subst, MutBor}
 use Rattle.std.proofs.raw_atomic.Walks.{proved}
 use base.Fraction.{full_share}
 use base.Logic.{sep, id⊢}
-use base.Fml.{ftrue, flft, flent, Incl-refl}
+use base.Fml.{ftrue, flft, flent}
 use mir.Syntax.{named}
 use contract.Monad.{fact}
 use contract.Running.{tables}
 use prog.Wp.{WpFn}
 use types.Logic.{sem}
-use types.Kit.{Goal, ‵, raw, ◌⊛◌, some, later, prop, at_ret, ◌$◌, ◌∵◌, !, qed, done, move, keep, drop, use1, use2, use3, split, join, fsplit, fjoin, feq_l, feq_i, pick, await, rewrite, regoal, suffices, frame, group, show}
-use types.Tokens.{lft_new, lft_end, lent_back}
-use types.SemTy.{Arr, Body}
-use types.Share.{arr_parts}
-use types.Part.{agg}
+use types.Kit.{Goal, ‵, raw, ◌⊛◌, some, later, prop, at_ret, ◌$◌, ◌∵◌, !, qed, done, move, keep, drop, use1, use3, split, join, fsplit, fjoin, pick, await, rewrite, regoal, suffices, frame, group, show}
+use types.Tokens.{lft_new, lft_end}
+use types.SemTy.{Body}
 use types.Run.{enter, addr, of_opd, stop, no_more, and_then, returns, returns_within, bin, lit, first, branches, skips, exec}
 use types.ByLocal.{alloc_all, pass_all, free_all, look_at, get, through, sets, lands_as, env}
-use denote.Builtin.{u8, u16, u32, i32, usize}
-use denote.Copied.{uint_Copied, sint_Copied}
 use denote.Exit.{yes}
 use denote.Laws.{Is, shows}
-use denote.Lend.{lends_ref, ref_back, lends_slice, slice_back, lends_shr_slice, Held}
-use denote.Memory.{mem, shares, part_at}
-use denote.Plain.{uint_Makes, uint_vals, uint_Tells}
+use denote.Lend.{lends_ref, ref_back}
+use denote.Memory.{mem, part_at}
 use denote.RawPtr.{Ptr, RawPtr, block_ptr, block_of, count_of, rawptr_vals, rawptr_Tells, rawptr_Lawful, Testable, tests_null}
 use denote.Ref.{MutRef, mut_vals}
 use denote.Signature.{plain}
-use denote.Slice.{MutSlice, ShrSlice, Room, slice_val}
-use denote.Steps.{nothing, owned, heard, peeks}
+use denote.Steps.{nothing, heard, peeks}
 use denote.Triple.Call.{calls_at}
 use denote.Triple.Clauses.{lasts}
 use denote.Triple.Entry.{on_entry}
@@ -37,7 +31,7 @@ use denote.Triple.Walked.{Stays, walk_of, says, stay_dropped, Goes-dropped, ends
 use Rattle.firmware.specs.declared.reply.Reply.{Reply}
 use Rattle.firmware.specs.contracts.reply.Reply as reply
 use Rattle.firmware.proofs.reply.Reply.TheLaws.{the_row_laws}
-use Rattle.firmware_c.specs.Lent.{RunAt, run_row, place, is_null, any_null, unless, null_reply}
+use Rattle.firmware_c.specs.Lent.{RunAt, run_row, place, any_null, unless, null_reply}
 use Rattle.firmware_c.specs.Stores.{room}
 use Rattle.firmware.specs.Places.{freed}
 use Rattle.firmware_c.specs.contracts.starting.fun_free as f
@@ -47,7 +41,7 @@ use Rattle.firmware_c.proofs.starting.fun_free.Statement.{statement}
 use Rattle.firmware_c.proofs.starting.fun_free.Code as code
 use Rattle.firmware_c.proofs.lent.refused_null.Met as null_met
 use Rattle.firmware_c.proofs.starting.free_in.Met.{met}
-use Rattle.firmware_c.proofs.Steps.{by_test, both_ways, first_false, second_false, in_block_where}
+use Rattle.firmware_c.proofs.Steps.{by_test, both_ways, in_block_where}
 
 abbrev stayed : Stays f.ended.signature.params f.ended.kept
 stayed = (stay_dropped _ yes, tt)

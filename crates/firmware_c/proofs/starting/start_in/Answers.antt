@@ -1,5 +1,4 @@
 use Rattle.std.proofs.Common.{sym, subst}
-use Rattle.typing.specs.Accepting.{IsRule}
 use Rattle.record.specs.declared.received.Received.{Received}
 use Rattle.firmware.specs.declared.run_place.RunPlace.{RunPlace}
 use Rattle.firmware_c.specs.Stores.{Cells, started}
