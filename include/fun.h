@@ -1,7 +1,7 @@
 /* FUN on a controller: a rule comes as a record, is accepted once, and is then run on the sensors' readings.
 
    Nothing is allocated and nothing is kept but what is lent here. Every call tells by its reply whether it was done; a call
-   that was refused has changed nothing.
+   that was refused has changed nothing, but for what a trial says of itself.
 
    What C owes, and nothing checks:
    - a pointer is null or leads to memory of the kind and count that the call names, aligned as its type is, and no
@@ -92,6 +92,14 @@ struct fun_report {
 #define FUN_NO_STORE 6
 #define FUN_NO_STACK 7
 
+/* What a trial came to: its first refusal, or a reply of 0 with what compile, accept and ask answered. */
+struct fun_trial {
+    struct fun_reply reply;
+    size_t bytes;   /* of the record */
+    size_t entries; /* of the type answer */
+    struct fun_report report;
+};
+
 /* ---- a rule */
 
 /* Puts the rule `0` into the place, whatever stands there. */
@@ -138,6 +146,15 @@ struct fun_reply fun_book_add(struct fun_book *book, const uint8_t *name, size_t
 
 /* Compiles a text: count bytes of its record are at the front of record. Refused (51 to 59), the buffer is as it was. */
 struct fun_reply fun_compile(struct fun_book *book, const uint8_t *text, size_t count, uint8_t *record, size_t room);
+
+/* Does all of it in one call: compiles the text, accepts its record, starts the rule over the cells of the run place, rewinds it with the
+   readings, grants the steps once where it waits, asks and closes. The first refusal (also 20 and 22, and 43 where a run is open)
+   ends it, and its layer says what refused; buffers, tables and places are then as the calls so far leave them. A rule that was
+   accepted is in the rule place afterwards. */
+struct fun_trial fun_trial(struct fun_run *run, struct fun_rule *rule, struct fun_book *book, const uint8_t *text,
+                           size_t text_count, uint8_t *record, size_t room, uint16_t *first, size_t first_count,
+                           uint16_t *second, size_t second_count, uint16_t *types, size_t types_count,
+                           const int32_t *readings, size_t count, uint32_t steps);
 
 /* ---- refusals */
 

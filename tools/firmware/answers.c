@@ -1,5 +1,5 @@
-/* Answers the lines of crates/answers/stdin through the C calls: those of the kinds accept and compile, and run over a linked
-   store. Prints each line's number and its answer, so that these can be compared with crates/answers/stdout. Every buffer is
+/* Answers the lines of crates/answers/stdin through the C calls: those of the kinds accept and compile, and run and trial over a
+   linked store. Prints each line's number and its answer, so that these can be compared with crates/answers/stdout. Every buffer is
    of its own and of just the size that the line names, so that valgrind sees a byte too many. */
 #include "fun.h"
 
@@ -33,6 +33,17 @@ static uint8_t *bytes(const char *text, size_t *count) {
     uint8_t *out = lend(*count);
     for (size_t i = 0; i < *count; i++)
         out[i] = (uint8_t)(digit(text[2 * i]) * 16 + digit(text[2 * i + 1]));
+    return out;
+}
+
+static int32_t *numbers(const char *text, size_t *count) {
+    int32_t *out = lend(4 * strlen(text));
+    *count = 0;
+    while (*text && strcmp(text, "-")) {
+        char *end;
+        out[(*count)++] = (int32_t)strtol(text, &end, 10);
+        text = *end == ':' ? end + 1 : end;
+    }
     return out;
 }
 
@@ -122,13 +133,8 @@ static void answer_call(struct fun_run *run, char *call) {
     if (*call == 'g') {
         reply = fun_grant(run, (uint32_t)strtoull(call + 1, 0, 10));
     } else {
-        size_t count = 0, most = strlen(call);
-        int32_t *readings = lend(4 * most);
-        for (char *at = call + 1; *at; count++) {
-            readings[count] = (int32_t)strtol(at, &at, 10);
-            if (*at == ':')
-                at++;
-        }
+        size_t count;
+        int32_t *readings = numbers(call + 1, &count);
         reply = fun_rewind(run, readings, count);
         free(readings);
     }
@@ -166,6 +172,42 @@ static void answer_run(char *rest) {
     free(record), free(rule), free(run), free(cells);
 }
 
+static void answer_trial(char *rest) {
+    size_t size = strtoull(field(&rest), 0, 10);
+    char *names = field(&rest);
+    size_t room = strtoull(field(&rest), 0, 10), first_count = strtoull(field(&rest), 0, 10);
+    size_t second_count = strtoull(field(&rest), 0, 10), types_count = strtoull(field(&rest), 0, 10);
+    uint32_t steps = (uint32_t)strtoull(field(&rest), 0, 10);
+    size_t count, text_count;
+    int32_t *readings = numbers(field(&rest), &count);
+    uint8_t *text = bytes(rest, &text_count), *record = lend(room);
+    uint16_t *first = lend(2 * first_count), *second = lend(2 * second_count), *types = lend(2 * types_count);
+    struct fun_rule *rule = lend(sizeof *rule);
+    struct fun_run *run = lend(sizeof *run);
+    struct fun_book *book = lend(sizeof *book);
+    struct fun_cell *cells = lend(size * sizeof *cells);
+    static const char *const layers[] = {"", "text", "rule", "run", "call"};
+    fun_rule_new(rule);
+    fun_run_new(run, cells, size);
+    fun_book_new(book);
+    if (add_names(book, names)) {
+        struct fun_trial trial = fun_trial(run, rule, book, text, text_count, record, room, first, first_count, second,
+                                           second_count, types, types_count, readings, count, steps);
+        if (trial.reply.refusal) {
+            printf("refused %s %u %zu", layers[trial.reply.layer], (unsigned)trial.reply.refusal, trial.reply.place);
+        } else {
+            printf("ok ");
+            print_report(trial.report);
+            printf(" type=");
+            for (size_t i = 0; i < trial.entries; i++)
+                printf("%s%u", i ? "," : "", (unsigned)types[i]);
+        }
+        printf(" free=%zu\n", fun_free(run).count);
+    }
+    free(readings), free(text), free(record), free(first), free(second), free(types);
+    free(rule), free(run), free(book), free(cells);
+}
+
 int main(void) {
     static char line[1 << 20];
     for (long number = 1; fgets(line, sizeof line, stdin); number++) {
@@ -174,6 +216,8 @@ int main(void) {
         void (*answer)(char *) = !strcmp(kind, "accept") ? answer_accept : !strcmp(kind, "compile") ? answer_compile : 0;
         if (!strcmp(kind, "run") && !strcmp(field(&rest), "linked"))
             answer = answer_run;
+        if (!strcmp(kind, "trial") && !strcmp(field(&rest), "linked"))
+            answer = answer_trial;
         if (!answer)
             continue;
         printf("%ld ", number);

@@ -18,7 +18,7 @@ int main(void) {
     static struct fun_run run;
     static struct fun_book book;
     static struct fun_cell cells[2];
-    uint8_t bytes[8] = {0, 3, 1, 0, 3};
+    uint8_t bytes[8] = {0, 3, 1, 0, 3}, out[8];
     uint16_t first[5], second[5], types[1];
     int32_t readings[1] = {0};
 
@@ -42,8 +42,8 @@ int main(void) {
     wants("accept null types", FUN_NULL, fun_accept(&rule, bytes, 5, first, 5, second, 5, NULL, 0));
     wants("book_add null book", FUN_NULL, fun_book_add(NULL, bytes, 1));
     wants("book_add null name", FUN_NULL, fun_book_add(&book, NULL, 0));
-    wants("compile null book", FUN_NULL, fun_compile(NULL, bytes, 1, bytes, 8));
-    wants("compile null text", FUN_NULL, fun_compile(&book, NULL, 0, bytes, 8));
+    wants("compile null book", FUN_NULL, fun_compile(NULL, bytes, 1, out, 8));
+    wants("compile null text", FUN_NULL, fun_compile(&book, NULL, 0, out, 8));
     wants("compile null record", FUN_NULL, fun_compile(&book, bytes, 1, NULL, 0));
 
     wants("rewind closed", FUN_CLOSED, fun_rewind(&run, readings, 1));
@@ -55,8 +55,18 @@ int main(void) {
     }
     wants("start null run", FUN_NULL, fun_start(NULL, &rule));
     wants("start null rule", FUN_NULL, fun_start(&run, NULL));
+    /* every pointer of a trial, one after the other */
+    for (int at = 0; at < 9; at++) {
+        struct fun_trial trial =
+            fun_trial(at == 0 ? NULL : &run, at == 1 ? NULL : &rule, at == 2 ? NULL : &book, at == 3 ? NULL : bytes, 1,
+                      at == 4 ? NULL : out, 8, at == 5 ? NULL : first, 5, at == 6 ? NULL : second, 5,
+                      at == 7 ? NULL : types, 1, at == 8 ? NULL : readings, 1, 1);
+        wants("trial null", FUN_NULL, trial.reply);
+    }
     wants("start", 0, fun_start(&run, &rule));
     wants("start open", FUN_OPEN, fun_start(&run, &rule));
+    wants("trial open", FUN_OPEN,
+          fun_trial(&run, &rule, &book, bytes, 1, out, 8, first, 5, second, 5, types, 1, readings, 1, 1).reply);
     wants("free open", FUN_OPEN, fun_free(&run));
     wants("rewind null run", FUN_NULL, fun_rewind(NULL, readings, 0));
     wants("rewind null readings", FUN_NULL, fun_rewind(&run, NULL, 0));

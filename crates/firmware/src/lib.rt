@@ -16,8 +16,10 @@ pub mod reply;
 pub mod report;
 pub mod run_place;
 pub mod running;
+pub mod trying;
 
 pub use fault::CallFault;
 pub use reply::Reply;
 pub use report::Told;
 pub use run_place::RunPlace;
+pub use trying::Trial;

@@ -26,6 +26,8 @@ use Rattle.firmware.specs.declared.report.Told.{Told}
 use Rattle.firmware.specs.declared.fault.CallFault.TheVariants.{NullPointer}
 use Rattle.firmware.specs.Replies.{done, misused}
 use Rattle.firmware.specs.Reports.{no_run}
+use Rattle.firmware.specs.declared.trying.Trial.{Trial}
+use Rattle.firmware.specs.Trials.{no_trial}
 
 -- how a rule and a run place lie in memory
 abbrev pub rule_row : RattleType
@@ -125,3 +127,6 @@ null_reply = misused NullPointer
 
 abbrev pub null_told : Told
 null_told = no_run
+
+abbrev pub null_trial : Trial
+null_trial = no_trial null_reply

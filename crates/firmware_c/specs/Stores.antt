@@ -11,6 +11,9 @@ use Rattle.firmware.specs.declared.reply.Reply.{Reply}
 use Rattle.firmware.specs.declared.run_place.RunPlace.{RunPlace}
 use Rattle.firmware.specs.declared.run_place.RunPlace.TheVariants.{Closed}
 use Rattle.firmware.specs.Places.{Started, Rewound, Granted}
+use Rattle.firmware.specs.declared.trying.Trial.{Trial}
+use Rattle.firmware.specs.Trials.{Buffers, TrialLeft}
+use Rattle.grammar.specs.Token.{Name}
 
 abbrev pub Cells : Type 0
 Cells = LinkedStore Value blank.ghosts
@@ -35,6 +38,9 @@ rewound = Rewound lists whole room cost
 
 abbrev pub granted : RunPlace Cells → ℕ → RunPlace Cells → Reply → Type 0
 granted = Granted lists whole room cost
+
+abbrev pub tries : List ℕ → List Name → Buffers → Buffers → RunPlace Cells → Received → List ℤ → ℕ → RunPlace Cells → Received → Trial → Type 0
+tries = TrialLeft lists whole room cost
 
 -- a new store over so many cells, all of them blank, with no run
 abbrev pub fresh_over : ℕ → RunPlace Cells → Type 0

@@ -14,3 +14,4 @@ mod lent;
 mod running;
 mod sizes;
 mod starting;
+mod trying;

@@ -20,7 +20,7 @@ use typing::rule::Rule;
 use values::Value;
 
 /// A run place over these cells, in which no run is open.
-fn over(cells: &'static mut [Cell<Value>]) -> RunOverCells
+pub(crate) fn over(cells: &'static mut [Cell<Value>]) -> RunOverCells
     ensures { fresh_over (length cells.old) result }
 {
     RunPlace::Closed(LinkedStore::new(cells))
