@@ -1,0 +1,4 @@
+pub mod Replies
+pub mod Reports
+pub mod Places
+pub mod Trials

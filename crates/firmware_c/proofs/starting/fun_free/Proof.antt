@@ -1,0 +1,126 @@
+-- the run place is lent to the safe function for a lifetime that is made for the call, and comes back
+use Rattle.std.proofs.Common.{◌≡◌, ℕ, [], ◌∷◌, ◌++◌, refl, subst, MutBor}
+use Rattle.std.proofs.raw_atomic.Walks.{proved}
+use base.Fraction.{full_share}
+use base.Logic.{sep, id⊢}
+use base.Fml.{ftrue, flft, flent}
+use mir.Syntax.{named}
+use contract.Monad.{fact}
+use contract.Running.{tables}
+use prog.Wp.{WpFn}
+use types.Logic.{sem}
+use types.Kit.{Goal, ‵, raw, ◌⊛◌, some, later, prop, at_ret, ◌$◌, ◌∵◌, !, qed, done, move, keep, drop, use1, use3, split, join, fsplit, fjoin, pick, await, rewrite, regoal, suffices, frame, group, show}
+use types.Tokens.{lft_new, lft_end}
+use types.SemTy.{Body}
+use types.Run.{enter, addr, of_opd, stop, no_more, and_then, returns, returns_within, bin, lit, first, branches, skips, exec}
+use types.ByLocal.{alloc_all, pass_all, free_all, look_at, get, through, sets, lands_as, env}
+use denote.Exit.{yes}
+use denote.Laws.{Is, shows}
+use denote.Lend.{lends_ref, ref_back}
+use denote.Memory.{mem, part_at}
+use denote.RawPtr.{Ptr, RawPtr, block_ptr, block_of, count_of, rawptr_vals, rawptr_Tells, rawptr_Lawful, Testable, tests_null}
+use denote.Ref.{MutRef, mut_vals}
+use denote.Signature.{plain}
+use denote.Steps.{nothing, heard, peeks}
+use denote.Triple.Call.{calls_at}
+use denote.Triple.Clauses.{lasts}
+use denote.Triple.Entry.{on_entry}
+use denote.Triple.Spec.{triple_of}
+use denote.Triple.Table.{framed}
+use denote.Triple.Walked.{Stays, walk_of, says, stay_dropped, Goes-dropped, ends_at}
+use Rattle.firmware.specs.declared.reply.Reply.{Reply}
+use Rattle.firmware.specs.contracts.reply.Reply as reply
+use Rattle.firmware.proofs.reply.Reply.TheLaws.{the_row_laws}
+use Rattle.firmware_c.specs.Lent.{RunAt, run_row, place, any_null, unless, null_reply}
+use Rattle.firmware_c.specs.Stores.{room}
+use Rattle.firmware.specs.Places.{freed}
+use Rattle.firmware_c.specs.contracts.starting.fun_free as f
+use Rattle.firmware_c.specs.contracts.lent.refused_null as n
+use Rattle.firmware_c.specs.contracts.starting.free_in as g
+use Rattle.firmware_c.proofs.starting.fun_free.Statement.{statement}
+use Rattle.firmware_c.proofs.starting.fun_free.Code as code
+use Rattle.firmware_c.proofs.lent.refused_null.Met as null_met
+use Rattle.firmware_c.proofs.starting.free_in.Met.{met}
+use Rattle.firmware_c.proofs.Steps.{by_test, both_ways, in_block_where}
+
+abbrev stayed : Stays f.ended.signature.params f.ended.kept
+stayed = (stay_dropped _ yes, tt)
+
+pub fun_free_spec : {M : Type 1} → statement M
+fun_free_spec 𝓤 𝓛 𝓜 𝓡 wired =
+    let c = f.clauses 𝓛 𝓜.mem 𝓡.returns in let W = walk_of 𝓛 f.ended stayed c in let 𝓣 = tables 𝓤 𝓛.H 𝓜 𝓡 𝓡.env in
+    let fm = framed 𝓤 𝓛.H 𝓜 (tables 𝓤 𝓛.H 𝓜 𝓡 𝓡.env) in
+    let of_ptr = Goes-dropped 𝓛 0 (plain (λ _. RawPtr)) yes (λ κs x w. refl) in
+    proved 𝓛 f.ended stayed c 𝓜 𝓡 (of_ptr, tt)
+    f.Key.name code.function (code.unfolded 𝓤 𝓛.H 𝓜 𝓡 wired)
+    (λ κs. (rawptr_vals, tt)) (λ κs. (rawptr_Tells, tt)) (λ κs qs bounds a lent are.
+    let y : Ptr → W.Ghost = λ run. ((κs, qs, bounds, (run, tt), (rawptr_vals run, tt)), lent) in
+    let at : Ptr → Goal 𝓤 𝓛.H = λ run. prop (WpFn 𝓤 𝓛.H 𝓣.C 𝓣.Λ code.function (rawptr_vals run ++ []) (W.post (y run))) in
+    qed 𝓛 (raw (on_entry 𝓛 f.signature κs qs a (y a.0).0.4) ∷ (raw (fact 𝓤 (Testable a.0)) ⊛ ‵ (place run_row lent a.0)) ∷ []) ∵ drop ! $
+    split ! $ heard ! (Testable a.0) (λ may.
+    by_test ! (any_null (a.0 ∷ []))
+    (λ null. enter ! 𝓣.C 𝓣.Λ code.function _ _ $ alloc_all ! (λ l. pass_all ! refl
+    (((rawptr_Lawful 𝓛).typed a.0 _ refl).0, tt) $
+    sets ! (bin ! (get ! refl) (lit ! tt) (tests_null a.0 may)) refl (tt, tt) $
+    first ! $ branches ! (get ! refl) (λ t.
+    let N = triple_of 𝓛 n.signature (n.spec 𝓛 𝓜.mem 𝓡.returns) in
+    let z : N.Ghost = ((tt, tt, tt, tt, tt), tt) in
+    nothing ! $ nothing ! $ join ! $ nothing ! $ move ! (1 ∷ 0 ∷ []) $ join ! $
+    use1 𝓛 (raw (N.pre z)) (id⊢ 𝓤 _) $
+    calls_at ! fm N (null_met.met 𝓤 𝓛 𝓜 𝓡 (code.calls-firmware_c::lent::refused_null 𝓡.env wired)) z (no_more !) (λ v.
+    use1 𝓛 (later (some (λ (r : Reply). (‵ ftrue ⊛ ‵ (reply.the_row.own_val r (v ∷ []))) ⊛
+    some (λ ws. ‵ (lasts n.ended z.0.0 z.0.3 ws) ⊛ raw (fact 𝓤 (r ≡ null_reply)))))) (id⊢ 𝓤 _) $
+    await ! tt $ pick ! (λ r. split ! $ split ! $ drop ! $
+    peeks ! reply.the_row (Is reply.the_row) (shows 𝓛 reply.the_row) r (v ∷ []) (λ is. lands_as ! refl refl ((the_row_laws.lawful 𝓛).typed r _ is).0 $
+    move ! (1 ∷ []) $ pick ! (λ ws. split ! $ drop ! $ heard ! _ (λ replied_so.
+    returns_within ! (W.post (y a.0)) refl (look_at ! 0 refl) $ free_all ! refl $
+    suffices ! _ (ends_at 𝓛 f.ended stayed c (y a.0) v r (tt, tt) (tt, tt)) $
+    nothing ! $ nothing ! $ join ! $ nothing ! $ group ! 3 $ frame ! $
+    show ! (λ (left : RunAt). sep 𝓤 (sem 𝓛 (place run_row left a.0)) (fact 𝓤 (unless (any_null (a.0 ∷ [])) ((left ≡ lent) × (r ≡ null_reply)) ((left ≡ lent) × (r ≡ freed room lent))))) lent $
+    says ! (λ _. (refl, replied_so), λ t. absurd (both_ways _ null t)) $ done !))))))
+    (λ t. absurd (both_ways _ null t))))
+    (λ leads.
+    let is_run = in_block_where a.0 leads in
+    rewrite ! 0 (λ (p : Ptr). ‵ (place run_row lent p)) is_run refl $
+    regoal ! (λ (p : Ptr). at p) is_run refl $
+    enter ! 𝓣.C 𝓣.Λ code.function _ _ $ alloc_all ! (λ l. pass_all ! refl
+    ((tt, tt), tt) $
+    sets ! (bin ! (get ! refl) (lit ! tt) (tests_null (block_ptr (block_of a.0) (count_of a.0)) (subst Testable is_run may))) refl (tt, tt) $
+    first ! $ branches ! (get ! refl) (λ t. absurd t) (λ t. skips ! $
+    exec ! 𝓣.C 𝓣.Λ (env code.Mir.locals l) code.Mir.t-3 (at_ret _ (W.post (y (block_ptr (block_of a.0) (count_of a.0))))) $
+    sets ! (of_opd ! (get ! refl)) refl (tt, tt) $ sets ! (addr ! (through ! refl (stop !))) refl (tt, tt) $
+    let at_run : ℕ → MutBor run_row.Denot = λ δ. record { ref_ptr = (block_of a.0, count_of a.0); ghost_name = δ; now = lent } in
+    lft_new ! tt (λ α0.
+    move ! (1 ∷ []) $
+    use1 𝓛 (later (some (λ (δ : ℕ). ‵ ((MutRef (named 0) (α0 ∷ []) run_row).own_val (at_run δ) (mut_vals (at_run δ))) ⊛ ‵ (flent (α0 ∷ []) (Body (mem run_row) (block_of a.0) (count_of a.0) δ)))))
+    (lends_ref 𝓛 run_row (named 0) (α0 ∷ []) lent (block_of a.0) (count_of a.0)) $ await ! tt $ pick ! (λ δ0. split ! $
+    let G = triple_of 𝓛 g.signature (g.spec 𝓛 𝓜.mem 𝓡.returns) in
+    let z : G.Ghost = (((α0 ∷ [], tt), (full_share, tt), tt, (at_run δ0, tt), (mut_vals (at_run δ0), tt)), tt) in
+    nothing ! $
+    move ! (1 ∷ 0 ∷ []) $
+    fjoin ! $
+    nothing ! $
+    move ! (3 ∷ 0 ∷ []) $
+    join ! $
+    join ! $
+    nothing ! $ move ! (1 ∷ 0 ∷ []) $ join ! $ use1 𝓛 (raw (G.pre z)) (id⊢ 𝓤 _) $
+    calls_at ! fm G (met 𝓤 𝓛 𝓜 𝓡 (code.calls-firmware_c::starting::free_in 𝓡.env wired)) z
+    (and_then ! (get ! refl) (no_more !)) (λ v.
+    use1 𝓛 (later (some (λ (r : Reply). ((‵ (flft (α0 ∷ []) full_share) ⊛ ‵ ftrue) ⊛ ‵ (reply.the_row.own_val r (v ∷ []))) ⊛
+    some (λ (ws : (run_row.Denot × Unit {0})). ‵ (lasts g.ended z.0.0 z.0.3 ws) ⊛ raw (fact 𝓤 ((ws.0 ≡ lent) × (r ≡ freed room lent))))))) (id⊢ 𝓤 _) $
+    await ! tt $ pick ! (λ r. split ! $ split ! $
+    split ! $ lft_end ! tt $
+    move ! (2 ∷ []) $
+    peeks ! reply.the_row (Is reply.the_row) (shows 𝓛 reply.the_row) r (v ∷ []) (λ is. lands_as ! refl refl ((the_row_laws.lawful 𝓛).typed r _ is).0 $
+    move ! (3 ∷ []) $
+    pick ! (λ ws. split ! $ move ! (1 ∷ []) $ heard ! _ (λ done_so.
+    fsplit ! $
+    fsplit ! $
+    move ! (4 ∷ 6 ∷ 0 ∷ []) $
+    use3 𝓛 (later (‵ (part_at run_row full_share ws.0 (block_of a.0) (count_of a.0)))) (ref_back 𝓛 run_row (α0 ∷ []) δ0 ws.0 (block_of a.0) (count_of a.0)) $ await ! tt $
+    returns ! (look_at ! 0 refl) $ free_all ! refl $
+    keep ! (3 ∷ 0 ∷ []) $
+    suffices ! _ (ends_at 𝓛 f.ended stayed c (y (block_ptr (block_of a.0) (count_of a.0))) v r (tt, tt) (tt, tt)) $
+    nothing ! $ nothing ! $ join ! $ nothing ! $ group ! 3 $ frame ! $
+    show ! (λ (left : RunAt). sep 𝓤 (sem 𝓛 (place run_row left (block_ptr (block_of a.0) (count_of a.0)))) (fact 𝓤 (unless (any_null ((block_ptr (block_of a.0) (count_of a.0)) ∷ [])) ((left ≡ lent) × (r ≡ null_reply)) ((left ≡ lent) × (r ≡ freed room lent)))))
+    ws.0 $ says ! (λ t. absurd t, λ _. done_so) $ done !))))))))))))
