@@ -1,6 +1,7 @@
 //! The fields of a line.
 use crate::trouble::Trouble;
-use std::alloc::Global;
+use hex::FromHexError;
+use std::alloc::{AllocError, Global};
 use std::str::FromStr;
 
 /// The fields of a line that are still to be read; a space stands between two.
