@@ -9,7 +9,7 @@ use crate::report::Told;
 use crate::run_place::RunPlace;
 use book::book::Book;
 use store::contract::{BareStore, Store};
-use trial::{Success, Tried, TrialFault, trial};
+use trial::{Success, TrialFault, Tried, trial};
 use typing::rule::Rule;
 use values::Value;
 
@@ -76,7 +76,9 @@ pub fn try_text<S: BareStore + Store<Elem = Value>>(
     readings: &[i32],
     steps: u32,
 ) -> TriedPlaces<S>
-    ensures { TrialLeft S.Store.lists S.Store.whole S.Store.room S.Store.cost text.now (names book.now) (buffers out.old first.old second.old types.old) (buffers out.new first.new second.new types.new) run rule readings.now steps result.run result.rule result.trial }
+    ensures { TrialLeft S.Store.lists S.Store.whole S.Store.room S.Store.cost text.now (names book.now)
+        (buffers out.old first.old second.old types.old) (buffers out.new first.new second.new types.new) run rule
+        readings.now steps result.run result.rule result.trial }
 {
     match run {
         RunPlace::Open(run) => TriedPlaces {
@@ -89,7 +91,9 @@ pub fn try_text<S: BareStore + Store<Elem = Value>>(
                 place,
                 store,
                 result,
-            } = trial(text, book, out, first, second, types, rule, store, readings, steps);
+            } = trial(
+                text, book, out, first, second, types, rule, store, readings, steps,
+            );
             TriedPlaces {
                 run: RunPlace::Closed(store),
                 rule: place,

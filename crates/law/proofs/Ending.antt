@@ -34,13 +34,17 @@ module _ {S : Type 0} (lists : S → Lists Value) (whole room : S → ℕ) (cost
   pub ended : (run : Seen S) (r : ℕ) (t : Tree) (turns : List Turn) →
       IsAt lists whole room cost run t (since (started r) turns).readings (since (started r) turns).granted →
       length (since (started r) turns).readings ≡ r →
-      AsReckoned (played (room_of (whole run.store) (cost run.store)) r t run.rule.nodes.items turns (reported run) (room run.store)
+      AsReckoned (played (room_of (whole run.store) (cost run.store)) r t run.rule.nodes.items turns (reported run)
+      (room run.store)
       (lists run.store))
   ended run r t turns at same =
       let now = since (started r) turns in
-      let stands = subst (λ n. StandsAt (rule_of run.rule.nodes.items now.readings) (behind (as_values now.readings) (lists run.store))
-      (reckoning.behind n (room_of (whole run.store) (cost run.store))) (room run.store) (rooted 0 now.readings) run.machine
-      (reckoned (reckoning.behind n (room_of (whole run.store) (cost run.store))) now.readings t now.granted)) same at.stands in
+      let stands = subst (λ n. StandsAt (rule_of run.rule.nodes.items now.readings) (behind (as_values now.readings)
+      (lists run.store))
+      (reckoning.behind n (room_of (whole run.store) (cost run.store))) (room run.store) (rooted 0 now.readings)
+      run.machine
+      (reckoned (reckoning.behind n (room_of (whole run.store) (cost run.store))) now.readings t now.granted)) same
+      at.stands in
       record {
         in_state = told_state run.machine.state ∙ stands.in_state;
         counted = stands.counted;

@@ -1,5 +1,6 @@
 -- The law follows from where runs stand.
-use Rattle.std.proofs.Common.{◌≡◌, ◌↔◌, ◌⊎◌, inl, inr, refl, sym, ◌∙◌, ap, subst, arith, ℕ, ◌<◌, ◌≤◌, min, Bool, true, false, List, [], ◌∷◌, length, Ok, Err, Result, cond, ◌==◌}
+use Rattle.std.proofs.Common.{◌≡◌, ◌↔◌, ◌⊎◌, inl, inr, refl, sym, ◌∙◌, ap, subst, arith, ℕ, ◌<◌, ◌≤◌, min, Bool, true}
+use Rattle.std.proofs.Common.{false, List, [], ◌∷◌, length, Ok, Err, Result, cond, ◌==◌}
 use Rattle.std.proofs.Math.Option.{Option, some, none}
 use Rattle.std.proofs.lemmas.List.{length-replicate}
 use native.Mathlib.Decide.{ℕ_discrete}
@@ -24,7 +25,8 @@ use Rattle.reckoning.proofs.Reckoning.{follows_stages}
 use Rattle.arithmetic.specs.declared.OutOfRange.{OutOfRange}
 use Rattle.run.specs.Told.{answer_of, state_of, IsShort}
 use Rattle.law.specs.Turns.{Since, started, after_call, since}
-use Rattle.law.specs.Law.{Play, readings_of, granted_of, first_stage, play_room, HoldsOf, Comparable, TellSame, AddUpAlike, Law, StandsAtEnd, Follows}
+use Rattle.law.specs.Law.{Play, readings_of, granted_of, first_stage, play_room, HoldsOf, Comparable, TellSame}
+use Rattle.law.specs.Law.{AddUpAlike, Law, StandsAtEnd, Follows}
 use Rattle.run.specs.Faults.{rewind_answer}
 use Rattle.law.specs.Replies.{IsReply, Replied}
 use Rattle.run.specs.declared.fault.RunFault.{RunFault}
@@ -42,7 +44,8 @@ use Rattle.law.specs.declared.turn.Turn.{Turn}
 
 -- readings in force are as many as the rule's
 
-after_length : (r : ℕ) (s : Reckoned) (now : Since) (call : Call) (answer : Reply) → length now.readings ≡ r → IsReply r s call answer → length (after_call now call answer).readings ≡ r
+after_length : (r : ℕ) (s : Reckoned) (now : Since) (call : Call) (answer : Reply) → length now.readings ≡ r
+    → IsReply r s call answer → length (after_call now call answer).readings ≡ r
 after_length r s now (Grant n) reply.Done e h = e
 after_length r s now (Grant n) (reply.Told report) e h = e
 after_length r s now (Grant n) (reply.Refused fault) e h = e
@@ -51,7 +54,8 @@ after_length r s now Ask (reply.Told report) e h = e
 after_length r s now Ask (reply.Refused fault) e h = e
 after_length r s now (Rewind readings) reply.Done e h = allowed (length readings.now) h
   where
-    either : (b : Bool) (n : ℕ) → (n == r) ≡ b → ◌≡◌ {A = Result (Unit {0}) RunFault} (cond b (Ok tt) (Err (WrongCount r n))) (Ok tt) → n ≡ r
+    either : (b : Bool) (n : ℕ) → (n == r) ≡ b → ◌≡◌ {A = Result (Unit {0}) RunFault}
+        (cond b (Ok tt) (Err (WrongCount r n))) (Ok tt) → n ≡ r
     either true n e h = eqb-true n r e
     either false n e h = let z : ◌≡◌ {A = ℕ} 0 1 = cc in absurd (omega arith)
 
@@ -60,7 +64,8 @@ after_length r s now (Rewind readings) reply.Done e h = allowed (length readings
 after_length r s now (Rewind readings) (reply.Told report) e h = e
 after_length r s now (Rewind readings) (reply.Refused fault) e h = e
 
-pub since_length : (room : Room) (r : ℕ) (t : Tree) (now : Since) (turns : List Turn) → length now.readings ≡ r → Replied room r t now turns → length (since now turns).readings ≡ r
+pub since_length : (room : Room) (r : ℕ) (t : Tree) (now : Since) (turns : List Turn) → length now.readings ≡ r
+    → Replied room r t now turns → length (since now turns).readings ≡ r
 since_length room r t now [] e h = e
 since_length room r t now (turn ∷ turns) e h =
     since_length room r t (after_call now turn.call turn.reply) turns
@@ -87,7 +92,8 @@ over_some none a e = let z : ◌≡◌ {A = ℕ} 0 1 = cc in absurd (omega arith
 over_some (some b) a e = cc
 
 -- an answer that is a value is told at rest
-at_rest : (o : Option Answer) (m : Next) (f : Found) → told o m ≡ some (answer_of f) → (m ≡ rests) × (o ≡ some (answer_of f))
+at_rest : (o : Option Answer) (m : Next) (f : Found) → told o m ≡ some (answer_of f) → (m ≡ rests)
+    × (o ≡ some (answer_of f))
 at_rest o rests f e = (refl, e)
 at_rest o (beyond n) (Number k) e = let z : ◌≡◌ {A = ℕ} 0 1 = cc in absurd (omega arith)
 at_rest o (beyond n) (Truth b) e = let z : ◌≡◌ {A = ℕ} 0 1 = cc in absurd (omega arith)
@@ -106,14 +112,18 @@ none_told o (to u) e = refl
 same_length : (p : Play) → StandsAtEnd p → length (readings_of p) ≡ p.r
 same_length p end = since_length (play_room p) p.r p.tree (started p.r) p.turns (length-replicate p.r _) end.replies
 
-typed_here : (p : Play) (end : StandsAtEnd p) (τ : Ty) → RuleHas p.r p.tree τ → RuleHas (length (readings_of p)) p.tree τ
+typed_here : (p : Play) (end : StandsAtEnd p) (τ : Ty) → RuleHas p.r p.tree τ
+    → RuleHas (length (readings_of p)) p.tree τ
 typed_here p end τ h = subst (λ r. RuleHas r p.tree τ) (sym (same_length p end)) h
 
-at_stages : (p : Play) → StandsAtEnd p → AtStages (first_stage p) (granted_of p) (reckoned (play_room p) (readings_of p) p.tree (granted_of p))
-at_stages p end = follows_stages (play_room p) p.tree end.typed.0 (readings_of p) (typed_here p end end.typed.0 end.typed.1) (granted_of p)
+at_stages : (p : Play) → StandsAtEnd p → AtStages (first_stage p) (granted_of p)
+    (reckoned (play_room p) (readings_of p) p.tree (granted_of p))
+at_stages p end = follows_stages (play_room p) p.tree end.typed.0 (readings_of p)
+    (typed_here p end end.typed.0 end.typed.1) (granted_of p)
 
 -- the answer of the stage, where a value is told
-stage_answer : (p : Play) → StandsAtEnd p → (f : Found) → p.report.state ≡ Done f → answer (stage p.report.count (first_stage p)) ≡ some (answer_of f)
+stage_answer : (p : Play) → StandsAtEnd p → (f : Found) → p.report.state ≡ Done f
+    → answer (stage p.report.count (first_stage p)) ≡ some (answer_of f)
 stage_answer p end f e =
     let r = reckoned (play_room p) (readings_of p) p.tree (granted_of p) in
     let a = at_stages p end in
@@ -122,7 +132,8 @@ stage_answer p end f e =
     ap (λ n. answer (stage n (first_stage p))) end.reckoned.counted ∙ over_some _ _ (sym q ∙ a.tells enough)
 
 value_told : (p : Play) → StandsAtEnd p → (f : Found) → p.report.state ≡ Done f →
-    (step (stage p.report.count (first_stage p)) ≡ rests) × (value_answer (stage p.report.count (first_stage p)) ≡ some (answer_of f))
+    (step (stage p.report.count (first_stage p)) ≡ rests)
+    × (value_answer (stage p.report.count (first_stage p)) ≡ some (answer_of f))
 value_told p end f e =
     let u = stage p.report.count (first_stage p) in
     at_rest (value_answer u) (step u) f (stage_answer p end f e)
@@ -144,17 +155,20 @@ next_beyond u (beyond k) n e = cc
 next_beyond u stuck n e = let z : ◌≡◌ {A = ℕ} 0 1 = cc in absurd (omega arith)
 next_beyond u (to v) n e = let z : ◌≡◌ {A = ℕ} 0 1 = cc in absurd (omega arith)
 
-range_told : (p : Play) → StandsAtEnd p → (n : ℕ) (out : OutOfRange) → p.report.state ≡ Range n out → Leaves (stage p.report.count (first_stage p)) n
+range_told : (p : Play) → StandsAtEnd p → (n : ℕ) (out : OutOfRange) → p.report.state ≡ Range n out
+    → Leaves (stage p.report.count (first_stage p)) n
 range_told p end n out e =
     let r = reckoned (play_room p) (readings_of p) p.tree (granted_of p) in
     let u = stage p.report.count (first_stage p) in
     let q : state r ≡ plain.over (Answer.range n) = sym end.reckoned.in_state ∙ ap state_of e in
     let enough : Suffices (state r) = subst Suffices (sym q) tt in
     let told_here : answer u ≡ some (Answer.range n) =
-    ap (λ k. answer (stage k (first_stage p))) end.reckoned.counted ∙ over_some _ _ (sym q ∙ (at_stages p end).tells enough) in
+    ap (λ k. answer (stage k (first_stage p))) end.reckoned.counted
+    ∙ over_some _ _ (sym q ∙ (at_stages p end).tells enough) in
     (determined.leaves u n).1 (next_beyond u (step u) n told_here)
 
-waits_below : (p : Play) → StandsAtEnd p → ¬ IsShort p.report.state → (n : ℕ) → Length (first_stage p) n → (p.report.state ≡ Waiting) ↔ (p.report.count < n)
+waits_below : (p : Play) → StandsAtEnd p → ¬ IsShort p.report.state → (n : ℕ) → Length (first_stage p) n
+    → (p.report.state ≡ Waiting) ↔ (p.report.count < n)
 waits_below p end room n l =
     let r = reckoned (play_room p) (readings_of p) p.tree (granted_of p) in
     let a = at_stages p end in
@@ -163,13 +177,16 @@ waits_below p end room n l =
     let enough : Suffices (state r) = not_short p.report.state (state r) end.reckoned.in_state room in
     let tells = a.tells enough in (
       (λ e.
-          let none_here : answer (stage r.count T) ≡ none = waiting_none _ (sym (sym end.reckoned.in_state ∙ ap state_of e) ∙ tells) in
+          let none_here : answer (stage r.count T) ≡ none = waiting_none _ (sym (sym end.reckoned.in_state
+          ∙ ap state_of e) ∙ tells) in
           let below = a.never_past.1 n l in
-          let other : ¬ (r.count ≡ n) = λ same. over_not_none (stage r.count T) (subst (λ k. over (stage k T) ≡ true) (sym same) l.last) none_here in
+          let other : ¬ (r.count ≡ n) = λ same. over_not_none (stage r.count T) (subst (λ k. over (stage k T) ≡ true)
+          (sym same) l.last) none_here in
           subst (λ k. k < n) (sym c) (strictly r.count n below other)),
       (λ h.
           let here : over (stage r.count T) ≡ false = l.earlier r.count (subst (λ k. k < n) c h) in
-          waiting_back p.report.state (end.reckoned.in_state ∙ tells ∙ ap stage_state (none_told (value_answer (stage r.count T)) (step (stage r.count T)) here))),
+          waiting_back p.report.state (end.reckoned.in_state ∙ tells
+          ∙ ap stage_state (none_told (value_answer (stage r.count T)) (step (stage r.count T)) here))),
     )
   where
     waiting_none : (o : Option Answer) → plain.waiting ≡ stage_state o → o ≡ none
@@ -195,7 +212,8 @@ waits_below p end room n l =
 
         by_next : (m : Next) → step u ≡ m → ends (step u) ≡ true → ¬ (told (value_answer u) (step u) ≡ none)
         by_next rests f e h = value_some u ((determined.at_rest u).1 f) (sym (ap (told (value_answer u)) f) ∙ h)
-        by_next (beyond m) f e h = let i : some (Answer.range m) ≡ none = sym (ap (told (value_answer u)) f) ∙ h in let z : ◌≡◌ {A = ℕ} 0 1 = cc in omega arith
+        by_next (beyond m) f e h = let i : some (Answer.range m) ≡ none = sym (ap (told (value_answer u)) f) ∙ h in
+            let z : ◌≡◌ {A = ℕ} 0 1 = cc in omega arith
         by_next stuck f e h = not_both (ends (step u)) e (ap ends f)
         by_next (to w) f e h = not_both (ends (step u)) e (ap ends f)
 
@@ -206,13 +224,17 @@ held p end =
     record {
       typed = end.typed;
       replies = end.replies;
-      length = λ readings e. has_length.some_length p.tree end.typed.0 readings (subst (λ n. RuleHas n p.tree end.typed.0) (sym e) end.typed.1);
-      not_stuck = never_stuck p.tree end.typed.0 (readings_of p) (typed_here p end end.typed.0 end.typed.1) p.report.count;
+      length = λ readings e. has_length.some_length p.tree end.typed.0 readings
+          (subst (λ n. RuleHas n p.tree end.typed.0) (sym e) end.typed.1);
+      not_stuck = never_stuck p.tree end.typed.0 (readings_of p) (typed_here p end end.typed.0 end.typed.1)
+          p.report.count;
       value = λ f e. (value_told p end f e).1;
-      belongs = λ f e τ h. value_belongs p.tree τ (readings_of p) (typed_here p end τ h) p.report.count (value_told p end f e).0;
+      belongs = λ f e τ h. value_belongs p.tree τ (readings_of p) (typed_here p end τ h) p.report.count
+          (value_told p end f e).0;
       range = range_told p end;
       reckoned = end.reckoned;
-      counts = λ room n l. end.reckoned.counted ∙ a.counts (not_short p.report.state (state r) end.reckoned.in_state room) n l ∙ min_other (granted_of p) n;
+      counts = λ room n l. end.reckoned.counted
+          ∙ a.counts (not_short p.report.state (state r) end.reckoned.in_state room) n l ∙ min_other (granted_of p) n;
       waits = waits_below p end;
     }
   where
@@ -243,7 +265,8 @@ state_injective x y e = sym (there x) ∙ ap back e ∙ there y
     there (NoStack n) = refl
 
 -- as long as room suffices, what is told is told by the stage of the count
-told_by_stage : (p : Play) → StandsAtEnd p → ¬ IsShort p.report.state → state_of p.report.state ≡ stage_state (answer (stage p.report.count (first_stage p)))
+told_by_stage : (p : Play) → StandsAtEnd p → ¬ IsShort p.report.state → state_of p.report.state ≡ stage_state
+    (answer (stage p.report.count (first_stage p)))
 told_by_stage p end room =
     let r = reckoned (play_room p) (readings_of p) p.tree (granted_of p) in
     end.reckoned.in_state ∙ (at_stages p end).tells (not_short p.report.state (state r) end.reckoned.in_state room) ∙
@@ -251,8 +274,12 @@ told_by_stage p end room =
 
 same_report : (x y : Report) → x.count ≡ y.count → x.state ≡ y.state → x ≡ y
 same_report x y e f =
-    let one : ◌≡◌ {A = Report} (record { count = x.count; state = x.state }) (record { count = y.count; state = x.state }) = ap (λ k. let z : Report = record { count = k; state = x.state } in z) e in
-    let two : ◌≡◌ {A = Report} (record { count = y.count; state = x.state }) (record { count = y.count; state = y.state }) = ap (λ k. let z : Report = record { count = y.count; state = k } in z) f in
+    let one : ◌≡◌ {A = Report} (record { count = x.count; state = x.state })
+    (record { count = y.count; state = x.state }) =
+    ap (λ k. let z : Report = record { count = k; state = x.state } in z) e in
+    let two : ◌≡◌ {A = Report} (record { count = y.count; state = x.state })
+    (record { count = y.count; state = y.state }) =
+    ap (λ k. let z : Report = record { count = y.count; state = k } in z) f in
     one ∙ two
 
 alike : (n g h : ℕ) → min n g ≡ min n h → (g ≡ h) ⊎ ((n ≤ g) × (n ≤ h))
@@ -268,22 +295,28 @@ compared p q end fin c =
     let hq = held q fin in
     let known = hp.length (readings_of p) (same_length p end) in
     let n = known.0 in
-    let same : first_stage p ≡ first_stage q = ap (λ rs. start rs p.tree) c.same_readings ∙ ap (λ t. start (readings_of q) t) c.same_tree in
+    let same : first_stage p ≡ first_stage q = ap (λ rs. start rs p.tree) c.same_readings
+    ∙ ap (λ t. start (readings_of q) t) c.same_tree in
     let lq : Length (first_stage q) n = subst (λ T. Length T n) same known.1 in
     let cp = hp.counts c.first_has_room n known.1 in
     let cq = hq.counts c.second_has_room n lq in (
       (λ e. reached n known.1 (alike n (granted_of p) (granted_of q) (sym cp ∙ ap (λ x. x.count) e ∙ cq))),
       (λ e.
           let counts = equal_counts known.0 known.1 cp cq e in
-          let states = state_injective _ _ (told_by_stage p end c.first_has_room ∙ ap (λ T. stage_state (answer (stage p.report.count T))) same ∙ ap (λ k. stage_state (answer (stage k (first_stage q)))) counts ∙ sym (told_by_stage q fin c.second_has_room)) in
+          let states = state_injective _ _ (told_by_stage p end c.first_has_room
+          ∙ ap (λ T. stage_state (answer (stage p.report.count T))) same
+          ∙ ap (λ k. stage_state (answer (stage k (first_stage q)))) counts
+          ∙ sym (told_by_stage q fin c.second_has_room)) in
           same_report p.report q.report counts states),
     )
   where
-    reached : (n : ℕ) → Length (first_stage p) n → (granted_of p ≡ granted_of q) ⊎ ((n ≤ granted_of p) × (n ≤ granted_of q)) → AddUpAlike p q
+    reached : (n : ℕ) → Length (first_stage p) n → (granted_of p ≡ granted_of q)
+        ⊎ ((n ≤ granted_of p) × (n ≤ granted_of q)) → AddUpAlike p q
     reached n l (inl e) = inl e
     reached n l (inr h) = inr (n, l, h.0, h.1)
 
-    equal_counts : (n : ℕ) → Length (first_stage p) n → p.report.count ≡ min n (granted_of p) → q.report.count ≡ min n (granted_of q) → AddUpAlike p q → p.report.count ≡ q.report.count
+    equal_counts : (n : ℕ) → Length (first_stage p) n → p.report.count ≡ min n (granted_of p)
+        → q.report.count ≡ min n (granted_of q) → AddUpAlike p q → p.report.count ≡ q.report.count
     equal_counts n l cp cq (inl e) = cp ∙ ap (λ g. min n g) e ∙ sym cq
     equal_counts n l cp cq (inr h) =
         let one : n ≡ h.0 = has_length.one_length (first_stage p) n h.0 l h.1 in

@@ -32,7 +32,8 @@ use Rattle.law.specs.declared.turn.Turn.{Turn}
 use Rattle.law.specs.Turns.{Since, started, after_call, since}
 use Rattle.law.specs.Replies.{IsReply, Replied}
 
--- A run that was played and closed: the room of its store, its rule (a tree over r readings, and the table of its nodes),
+-- A run that was played and closed: the room of its store, its rule (a tree over r readings, and the table of its
+-- nodes),
 -- its calls with their replies, and at the end what ask told, the free room and the lists of the handles.
 pub record Play : Type 0 where
   pub room : Room
@@ -77,7 +78,8 @@ pub record AsReckoned (p : Play) : Type 0 where
   pub counted : p.report.count ≡ (reckoned_of p).count
   pub left_free : p.free ≡ free (play_room p) (reckoned_of p).made
   pub lists_made :
-      Owned (rule_of p.nodes (readings_of p)) (behind (as_values (readings_of p)) p.lists) (rooted 0 (readings_of p)) (reckoned_of p).made
+      Owned (rule_of p.nodes (readings_of p)) (behind (as_values (readings_of p)) p.lists) (rooted 0 (readings_of p))
+      (reckoned_of p).made
 
 -- What holds of every run that was played.
 pub record HoldsOf (p : Play) : Type 0 where
@@ -91,15 +93,18 @@ pub record HoldsOf (p : Play) : Type 0 where
   pub not_stuck : ¬ IsStuck (stage_of p)
   -- a value told is the one at the stage of its count, and belongs to every type of the rule
   pub value : (found : Found) → p.report.state ≡ told.Done found → value_answer (stage_of p) ≡ some (answer_of found)
-  pub belongs : (found : Found) → p.report.state ≡ told.Done found → (τ : Ty) → RuleHas p.r p.tree τ → Belongs (stage_of p) τ
+  pub belongs : (found : Found) → p.report.state ≡ told.Done found → (τ : Ty) → RuleHas p.r p.tree τ
+      → Belongs (stage_of p) τ
   -- a sum told to leave the number range is the one that is next at that stage, and leaves it
   pub range : (n : ℕ) (out : OutOfRange) → p.report.state ≡ told.Range n out → Leaves (stage_of p) n
   -- it is short of room exactly where that is reckoned, with the state and count given there, and gives its store back
   -- with the free room so reckoned
   pub reckoned : AsReckoned p
-  -- otherwise its count is the lesser of the length and its allowed grants added up, and it waits exactly below the length
+  -- otherwise its count is the lesser of the length and its allowed grants added up, and it waits exactly below the
+  -- length
   pub counts : ¬ IsShort p.report.state → (n : ℕ) → Length (first_stage p) n → p.report.count ≡ min n (granted_of p)
-  pub waits : ¬ IsShort p.report.state → (n : ℕ) → Length (first_stage p) n → (p.report.state ≡ told.Waiting) ↔ (p.report.count < n)
+  pub waits : ¬ IsShort p.report.state → (n : ℕ) → Length (first_stage p) n → (p.report.state ≡ told.Waiting)
+      ↔ (p.report.count < n)
 
 -- Two runs are comparable: the same accepted tree, equal readings, whatever their stores, and neither short of room.
 pub record Comparable (p q : Play) : Type 0 where
@@ -141,10 +146,12 @@ abbrev pub Follows : Type 0
 Follows = (p q : Play) → StandsAtEnd p → StandsAtEnd q → Law p q
 
 -- One call: from readings and allowed grants added up to those after it, with the reply that is due.
-abbrev pub Called : {S : Type 0} → (S → Lists Value) → (S → ℕ) → (S → ℕ) → (S → ℕ → ℕ) → Seen S → Seen S → Call → Reply → Type 0
+abbrev pub Called : {S : Type 0} → (S → Lists Value) → (S → ℕ) → (S → ℕ) → (S → ℕ → ℕ) → Seen S → Seen S → Call
+    → Reply → Type 0
 Called lists whole room cost old new call reply =
     (t : Tree) (now : Since) →
     IsAt lists whole room cost old t now.readings now.granted →
     IsAt lists whole room cost new t (after_call now call reply).readings (after_call now call reply).granted ×
     IsReply (length now.readings)
-    (reckoned (reckoning.behind (length now.readings) (room_of (whole old.store) (cost old.store))) now.readings t now.granted) call reply
+    (reckoned (reckoning.behind (length now.readings) (room_of (whole old.store) (cost old.store))) now.readings t
+    now.granted) call reply

@@ -55,7 +55,9 @@ pub fn play<S: BareStore + Store<Elem = Value>>(
     ensures rule { result.rule ≡ rule }
     ensures whole { S.Store.whole result.store ≡ S.Store.whole store }
     ensures cost { S.Store.cost result.store ≡ S.Store.cost store }
-    ensures law { (r : ℕ) (t : Tree) → IsRule rule r t → HoldsOf (played (room_of (S.Store.whole store) (S.Store.cost store)) r t rule.nodes.items turns.new result.report (S.Store.room result.store) (S.Store.lists result.store)) }
+    ensures law { (r : ℕ) (t : Tree) → IsRule rule r t
+        → HoldsOf (played (room_of (S.Store.whole store) (S.Store.cost store)) r t rule.nodes.items turns.new
+        result.report (S.Store.room result.store) (S.Store.lists result.store)) }
 {
     let mut run = Run::start(rule, store);
     for turn in turns.iter_mut() {
@@ -81,9 +83,15 @@ pub fn play_two<S: BareStore + Store<Elem = Value>, T: BareStore + Store<Elem = 
 ) -> Both<S, T>
     ensures calls { (calls_of turns.new ≡ calls_of turns.old) × (calls_of other_turns.new ≡ calls_of other_turns.old) }
     ensures rules { (result.one.rule ≡ rule) × (result.two.rule ≡ other) }
-    ensures whole { (S.Store.whole result.one.store ≡ S.Store.whole store) × (T.Store.whole result.two.store ≡ T.Store.whole other_store) }
-    ensures cost { (S.Store.cost result.one.store ≡ S.Store.cost store) × (T.Store.cost result.two.store ≡ T.Store.cost other_store) }
-    ensures law { (r q : ℕ) (t u : Tree) → IsRule rule r t → IsRule other q u → Law (played (room_of (S.Store.whole store) (S.Store.cost store)) r t rule.nodes.items turns.new result.one.report (S.Store.room result.one.store) (S.Store.lists result.one.store)) (played (room_of (T.Store.whole other_store) (T.Store.cost other_store)) q u other.nodes.items other_turns.new result.two.report (T.Store.room result.two.store) (T.Store.lists result.two.store)) }
+    ensures whole { (S.Store.whole result.one.store ≡ S.Store.whole store)
+        × (T.Store.whole result.two.store ≡ T.Store.whole other_store) }
+    ensures cost { (S.Store.cost result.one.store ≡ S.Store.cost store)
+        × (T.Store.cost result.two.store ≡ T.Store.cost other_store) }
+    ensures law { (r q : ℕ) (t u : Tree) → IsRule rule r t → IsRule other q u
+        → Law (played (room_of (S.Store.whole store) (S.Store.cost store)) r t rule.nodes.items turns.new
+        result.one.report (S.Store.room result.one.store) (S.Store.lists result.one.store))
+        (played (room_of (T.Store.whole other_store) (T.Store.cost other_store)) q u other.nodes.items other_turns.new
+        result.two.report (T.Store.room result.two.store) (T.Store.lists result.two.store)) }
 {
     Both {
         one: play(rule, store, turns),

@@ -1,5 +1,6 @@
--- The count of the nodes to be met is that of the trees. Assumes nothing.
-use Rattle.std.proofs.Common.{◌≡◌, ℕ, zero, suc, ◌+◌, ◌-◌, ◌*◌, ◌<◌, ◌≤◌, List, [], ◌∷◌, length, refl, sym, ap, ◌∙◌, arith, Bool, true, false, cond, nat_lt}
+-- The count of the nodes to be met is that of the trees.
+use Rattle.std.proofs.Common.{◌≡◌, ℕ, zero, suc, ◌+◌, ◌-◌, ◌*◌, ◌<◌, ◌≤◌, List, [], ◌∷◌, length, refl, sym, ap, ◌∙◌}
+use Rattle.std.proofs.Common.{arith, Bool, true, false, cond, nat_lt}
 use Rattle.std.proofs.Math.Nat.{mul-le-mul_right}
 use Rattle.syntax.specs.Tree.{Tree, nodes}
 use Rattle.syntax.specs.Tree as tree
@@ -11,7 +12,8 @@ use Rattle.syntax.specs.declared.node.Node.TheVariants.{Variable, Reading}
 use Rattle.reckoning.specs.Work.{Work}
 use Rattle.reckoning.specs.Contexts.{Open}
 use Rattle.machine.specs.declared.operation.Operation.{Operation}
-use Rattle.machine.specs.declared.operation.Operation.TheVariants.{Argument, Applied, Bound, SumRight, SumLeft, CompareRight, CompareLeft, Condition}
+use Rattle.machine.specs.declared.operation.Operation.TheVariants.{Argument, Applied, Bound, SumRight, SumLeft}
+use Rattle.machine.specs.declared.operation.Operation.TheVariants.{CompareRight, CompareLeft, Condition}
 use Rattle.machine.specs.declared.operations.Operations.{Operations}
 use Rattle.machine.specs.declared.next.Next.{Next}
 use Rattle.machine.specs.declared.next.Next.TheVariants as next
@@ -24,7 +26,8 @@ use Rattle.machine.proofs.Stacking.{weighed_more}
 use Rattle.machine.proofs.Settling.{ready_weight}
 
 module _ (rule : Rule) where
-  of_node : (n p : ℕ) (m : Node) → node_at rule.nodes p ≡ m → extent (suc n) rule.nodes p ≡ by_last (λ q. extent n rule.nodes q) p m
+  of_node : (n p : ℕ) (m : Node) → node_at rule.nodes p ≡ m → extent (suc n) rule.nodes p ≡ by_last
+      (λ q. extent n rule.nodes q) p m
   of_node n p m e = ap (λ x. by_last (λ q. extent n rule.nodes q) p x) e
 
   one_node : (n p b d : ℕ) → by_last (λ q. extent n rule.nodes q) p (named b d) ≡ 1
@@ -75,7 +78,8 @@ module _ (rule : Rule) where
         let f = at_extent more q u b in
         omega arith
 
-    pub shorter_open : (table' : Operations) (op : Operation) → Topped table.ops table'.ops table.depth op → table'.depth ≡ table.depth + 1 →
+    pub shorter_open : (table' : Operations) (op : Operation) → Topped table.ops table'.ops table.depth op
+        → table'.depth ≡ table.depth + 1 →
         weight rule.nodes op + nodes b.tree < nodes a.tree → to_meet rule.nodes table' q < to_meet rule.nodes table p
     shorter_open table' op topped deep less =
         let e = at_extent names p t a in
@@ -85,7 +89,8 @@ module _ (rule : Rule) where
         omega arith
 
   -- a ready operation that is opened adds none
-  pub as_many_open : (table table' : Operations) (op : Operation) (p k : ℕ) → IsReady op → Topped table.ops table'.ops table.depth op → table'.depth ≡ table.depth + 1 →
+  pub as_many_open : (table table' : Operations) (op : Operation) (p k : ℕ) → IsReady op
+      → Topped table.ops table'.ops table.depth op → table'.depth ≡ table.depth + 1 →
       to_meet rule.nodes table p < k → to_meet rule.nodes table' p < k
   as_many_open table table' op p k ready topped deep less =
       let n : table'.depth ≡ suc table.depth = omega arith in
@@ -95,15 +100,21 @@ module _ (rule : Rule) where
 
   module _ (lists : Lists Value) where
     -- an operation that gives way: its left operand waits no more
-    pub gives_way : (table table' : Operations) (op : Operation) (n p h : ℕ) (t : _) (env : _) → table'.ops ≡ table.ops → table'.depth + 1 ≡ table.depth →
-        op_at table.ops (table.depth - 1) ≡ op → weight rule.nodes op ≡ span (node_at rule.nodes n) → Waits rule lists p h (span (node_at rule.nodes n)) t env →
+    pub gives_way : (table table' : Operations) (op : Operation) (n p h : ℕ) (t : _) (env : _)
+        → table'.ops ≡ table.ops → table'.depth + 1 ≡ table.depth →
+        op_at table.ops (table.depth - 1) ≡ op → weight rule.nodes op ≡ span (node_at rule.nodes n)
+        → Waits rule lists p h (span (node_at rule.nodes n)) t env →
         to_meet rule.nodes table' p < suc (2 * weighed rule.nodes table.ops table.depth)
     gives_way table table' op n p h t env same deep is heavy waits =
         let d : table.depth ≡ suc table'.depth = omega arith in
         let last : table.depth - 1 ≡ table'.depth = omega arith in
-        let all : weighed rule.nodes table.ops table.depth ≡ weight rule.nodes (op_at table.ops table'.depth) + weighed rule.nodes table.ops table'.depth = ap (λ i. weighed rule.nodes table.ops i) d in
-        let here : weight rule.nodes (op_at table.ops table'.depth) ≡ weight rule.nodes op = ap (λ i. weight rule.nodes (op_at table.ops i)) (sym last) ∙ ap (λ y. weight rule.nodes y) is in
-        let below : weighed rule.nodes table'.ops table'.depth ≡ weighed rule.nodes table.ops table'.depth = ap (λ y. weighed rule.nodes y table'.depth) same in
+        let all : weighed rule.nodes table.ops table.depth ≡ weight rule.nodes
+        (op_at table.ops table'.depth) + weighed rule.nodes table.ops table'.depth =
+        ap (λ i. weighed rule.nodes table.ops i) d in
+        let here : weight rule.nodes (op_at table.ops table'.depth) ≡ weight rule.nodes op =
+        ap (λ i. weight rule.nodes (op_at table.ops i)) (sym last) ∙ ap (λ y. weight rule.nodes y) is in
+        let below : weighed rule.nodes table'.ops table'.depth ≡ weighed rule.nodes table.ops table'.depth =
+        ap (λ y. weighed rule.nodes y table'.depth) same in
         let e = at_extent _ p t waits.at in
         let sized = waits.sized in
         omega arith
@@ -119,7 +130,8 @@ module _ (rule : Rule) where
     light (Condition n p q h) o s = omega arith
 
     -- no more than the whole table for each operation
-    bounded : (ops : List Operation) (d : ℕ) (os : List Open) → Stacked rule lists ops d os → weighed rule.nodes ops d ≤ d * length rule.nodes
+    bounded : (ops : List Operation) (d : ℕ) (os : List Open) → Stacked rule lists ops d os
+        → weighed rule.nodes ops d ≤ d * length rule.nodes
     bounded ops zero os s = omega arith
     bounded ops (suc d) [] s = absurd s
     bounded ops (suc d) (o ∷ os) s =
@@ -129,7 +141,8 @@ module _ (rule : Rule) where
         omega arith
 
     -- no run has more to go, with at most 256 operations open
-    pub to_go_bounded : (table : Operations) (to : Next) (w : Work) → table.depth ≤ 256 → Follows rule lists table to w → to_go rule.nodes table to < 2 * (257 * length rule.nodes) + 2
+    pub to_go_bounded : (table : Operations) (to : Next) (w : Work) → table.depth ≤ 256
+        → Follows rule lists table to w → to_go rule.nodes table to < 2 * (257 * length rule.nodes) + 2
     to_go_bounded table (next.Value x) w low f =
         let a = bounded table.ops table.depth f.opens f.stacked in
         let b = mul-le-mul_right (length rule.nodes) low in

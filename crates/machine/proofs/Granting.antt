@@ -1,5 +1,6 @@
--- One granted step, on plain lists and in the store. Assumes nothing.
-use Rattle.std.proofs.Common.{◌≡◌, ◌≢◌, ℕ, suc, ◌+◌, ◌<◌, ◌≤◌, inl, inr, Bool, true, false, List, [], ◌∷◌, Some, refl, sym, ap, ◌∙◌, subst, arith}
+-- One granted step, on plain lists and in the store.
+use Rattle.std.proofs.Common.{◌≡◌, ◌≢◌, ℕ, suc, ◌+◌, ◌<◌, ◌≤◌, inl, inr, Bool, true, false, List, [], ◌∷◌, Some, refl}
+use Rattle.std.proofs.Common.{sym, ap, ◌∙◌, subst, arith}
 use Rattle.std.proofs.Math.Option.{none, some}
 use Rattle.store.specs.Lists.{Lists, Same}
 use Rattle.store.proofs.Told.{some_none}
@@ -23,20 +24,28 @@ use Rattle.machine.specs.Places.{Rule}
 -- the lists made
 
 module _ (rule : Rule) (lists lists' : Lists Value) where
-  own_kept : Kept lists lists' → (root : ℕ) (handles : List ℕ) (made : List Env) → OwnLists rule lists root handles made → OwnLists rule lists' root handles made
+  own_kept : Kept lists lists' → (root : ℕ) (handles : List ℕ) (made : List Env)
+      → OwnLists rule lists root handles made → OwnLists rule lists' root handles made
   own_kept kept root [] [] o = o
   own_kept kept root [] (env ∷ made) o = o
   own_kept kept root (h ∷ handles) [] o = o
-  own_kept kept root (h ∷ handles) (env ∷ made) o = (list_kept rule lists lists' kept h env o.0, o.1, o.2, own_kept kept root handles made o.3)
+  own_kept kept root (h ∷ handles) (env ∷ made) o = (
+    list_kept rule lists lists' kept h env o.0,
+    o.1,
+    o.2,
+    own_kept kept root handles made o.3,
+  )
 
-  own_listed : (k root : ℕ) (handles : List ℕ) (made : List Env) → OwnLists rule lists root handles made → Among k handles → (l : List Value) × (lists k ≡ Some l)
+  own_listed : (k root : ℕ) (handles : List ℕ) (made : List Env) → OwnLists rule lists root handles made
+      → Among k handles → (l : List Value) × (lists k ≡ Some l)
   own_listed k root [] [] o a = absurd a
   own_listed k root [] (env ∷ made) o a = absurd a
   own_listed k root (h ∷ handles) [] o a = absurd o
   own_listed k root (h ∷ handles) (env ∷ made) o (inl e) = (o.0.0, ap lists e ∙ o.0.1)
   own_listed k root (h ∷ handles) (env ∷ made) o (inr a) = own_listed k root handles made o.3 a
 
-  pub owned_same : (root : Root) (made : List Env) → Same lists lists' → Owned rule lists root made → Owned rule lists' root made
+  pub owned_same : (root : Root) (made : List Env) → Same lists lists' → Owned rule lists root made
+      → Owned rule lists' root made
   owned_same root made same o =
       let kept = same_kept lists lists' same in
       record {
@@ -46,11 +55,13 @@ module _ (rule : Rule) (lists lists' : Lists Value) where
         no_other = λ h n a. same h ∙ o.no_other h n a;
       }
 
-  pub owned_more : (r : Room) (left left' : ℕ) (root : Root) (env : Env) (made : List Env) → MakesList rule r lists lists' left left' env → Owned rule lists root made → Owned rule lists' root (env ∷ made)
+  pub owned_more : (r : Room) (left left' : ℕ) (root : Root) (env : Env) (made : List Env)
+      → MakesList rule r lists lists' left left' env → Owned rule lists root made → Owned rule lists' root (env ∷ made)
   owned_more r left left' root env made m o =
       let kept = others_kept lists lists' m.handle m.fresh m.others in
       let not_root : m.handle ≢ root.handle = λ e. some_none o.at_root.1 (ap lists (sym e) ∙ m.fresh) in
-      let not_among : ¬ Among m.handle o.handles = λ a. let l = own_listed m.handle root.handle o.handles made o.own a in some_none l.1 m.fresh in
+      let not_among : ¬ Among m.handle o.handles = λ a.
+      let l = own_listed m.handle root.handle o.handles made o.own a in some_none l.1 m.fresh in
       record {
         handles = m.handle ∷ o.handles;
         at_root = list_kept rule lists lists' kept root.handle root.environment o.at_root;
@@ -72,7 +83,8 @@ module _ (rule : Rule) (lists lists' : Lists Value) (r : Room) (left left' : ℕ
     pub left_free : left' ≡ free r s'.made
     pub lists_made : Owned rule lists' root s'.made
 
-  extends_goes : (s : Reckoned) (n : ℕ) (env : Env) (w u : Work) (b : Bool) → b ≡ true → w ≡ u → left ≡ free r s.made → Owned rule lists root s.made →
+  extends_goes : (s : Reckoned) (n : ℕ) (env : Env) (w u : Work) (b : Bool) → b ≡ true → w ≡ u → left ≡ free r s.made
+      → Owned rule lists root s.made →
       MakesList rule r lists lists' left left' env → Goes s (extends r s n env w b) u
   extends_goes s n env w u false b e f o m = let z : ◌≡◌ {A = ℕ} 0 1 = cc in absurd (omega arith)
   extends_goes s n env w u true b e f o m =
@@ -85,19 +97,29 @@ module _ (rule : Rule) (lists lists' : Lists Value) (r : Room) (left left' : ℕ
         lists_made = owned_more rule lists lists' r left left' root env s.made m o;
       }
 
-  pub reduces_goes : (s : Reckoned) (m : Move) (u : Work) → left ≡ free r s.made → Owned rule lists root s.made → Moved rule r lists lists' left left' m u → Goes s (reduces r s m) u
+  pub reduces_goes : (s : Reckoned) (m : Move) (u : Work) → left ≡ free r s.made → Owned rule lists root s.made
+      → Moved rule r lists lists' left left' m u → Goes s (reduces r s m) u
   reduces_goes s rests u f o m = absurd m
   reduces_goes s (beyond n) u f o m = absurd m
   reduces_goes s stuck u f o m = absurd m
   reduces_goes s (plain w) u f o m =
-      record { work = m.0; count = refl; refused = refl; left_free = m.2 ∙ f; lists_made = owned_same rule lists lists' root s.made m.1 o }
+      record {
+        work = m.0;
+        count = refl;
+        refused = refl;
+        left_free = m.2 ∙ f;
+        lists_made =
+            owned_same rule lists lists' root s.made m.1 o;
+      }
   reduces_goes s (makes n env w) u f o m =
       let paid = m.1.paid in
       extends_goes s n env w u _ (leb_yes (price r env) (free r s.made) (omega arith)) m.0 f o m.1
 
   -- an extension is refused
-  pub refused_stands : (s : Reckoned) (n : ℕ) (env : Env) (u : Work) (run : Machine) → state s ≡ waiting → left ≡ free r s.made → Owned rule lists root s.made →
-      move s.work ≡ makes n env u → left < price r env → Same lists lists' → left' ≡ left → run.count ≡ s.count → run.state ≡ told.NoStore n →
+  pub refused_stands : (s : Reckoned) (n : ℕ) (env : Env) (u : Work) (run : Machine) → state s ≡ waiting
+      → left ≡ free r s.made → Owned rule lists root s.made →
+      move s.work ≡ makes n env u → left < price r env → Same lists lists' → left' ≡ left → run.count ≡ s.count
+      → run.state ≡ told.NoStore n →
       StandsAt rule lists' r left' root run (granted r s)
   refused_stands s n env u run e f o m dear same still c st =
       let no : _ = leb_no (price r env) (free r s.made) (omega arith) in
@@ -117,11 +139,14 @@ pub never_stuck_on : (r : Room) (s : Reckoned) (n : ℕ) → NeverStuck r s → 
 never_stuck_on r s n h k e = h (k + n) (ap (λ y. move y.work) (sym (steps_add_up r s k n)) ∙ e)
 
 module _ (rule : Rule) (lists lists' : Lists Value) (r : Room) (left left' : ℕ) (root : Root) where
-  pub granted_goes : (s : Reckoned) (u : Work) → state s ≡ waiting → left ≡ free r s.made → Owned rule lists root s.made → Moved rule r lists lists' left left' (move s.work) u →
+  pub granted_goes : (s : Reckoned) (u : Work) → state s ≡ waiting → left ≡ free r s.made
+      → Owned rule lists root s.made → Moved rule r lists lists' left left' (move s.work) u →
       Goes rule lists lists' r left left' root s (granted r s) u
-  granted_goes s u e f o m = subst (λ y. Goes rule lists lists' r left left' root s y u) (sym (granted_reduces r s e)) (reduces_goes rule lists lists' r left left' root s (move s.work) u f o m)
+  granted_goes s u e f o m = subst (λ y. Goes rule lists lists' r left left' root s y u) (sym (granted_reduces r s e))
+      (reduces_goes rule lists lists' r left left' root s (move s.work) u f o m)
 
-pub room_same : (whole whole' : ℕ) (cost cost' : ℕ → ℕ) → whole ≡ whole' → cost ≡ cost' → room_of whole cost ≡ room_of whole' cost'
+pub room_same : (whole whole' : ℕ) (cost cost' : ℕ → ℕ) → whole ≡ whole' → cost ≡ cost'
+    → room_of whole cost ≡ room_of whole' cost'
 room_same whole whole' cost cost' e f = ap (λ x. room_of x cost) e ∙ ap (λ y. room_of whole' y) f
 
 waiting_told : (st : told_state.State) → state_of st ≡ waiting → st ≡ told.Waiting
@@ -132,7 +157,9 @@ waiting_told (told.NoStore n) e = let z : ◌≡◌ {A = ℕ} 0 1 = cc in absurd
 waiting_told (told.NoStack n) e = let z : ◌≡◌ {A = ℕ} 0 1 = cc in absurd (omega arith)
 
 -- a run that waits no more stands where it will stand after all further steps
-pub stopped : (rule : Rule) (lists : Lists Value) (r : Room) (left : ℕ) (root : Root) (run : Machine) (s : Reckoned) (n m : ℕ) → n ≤ m → (run.state ≡ told.Waiting → ⊥) →
+pub stopped : (rule : Rule) (lists : Lists Value) (r : Room) (left : ℕ) (root : Root) (run : Machine) (s : Reckoned)
+    (n m : ℕ) → n ≤ m → (run.state ≡ told.Waiting → ⊥) →
     StandsAt rule lists r left root run (steps r n s) → StandsAt rule lists r left root run (steps r m s)
 stopped rule lists r left root run s n m h not t =
-    subst (λ y. StandsAt rule lists r left root run y) (sym (stays r s m n h (λ e. not (waiting_told run.state (t.in_state ∙ e))))) t
+    subst (λ y. StandsAt rule lists r left root run y)
+    (sym (stays r s m n h (λ e. not (waiting_told run.state (t.in_state ∙ e))))) t

@@ -1,4 +1,4 @@
--- What stands in a store still stands once it has more lists. Assumes nothing.
+-- What stands in a store still stands once it has more lists.
 use Rattle.std.proofs.Common.{◌≡◌, ◌≢◌, ℕ, zero, suc, List, [], ◌∷◌, length, Some, None, refl, ap, ◌∙◌}
 use Rattle.store.specs.Lists.{Lists, Same}
 use Rattle.store.proofs.Told.{some_none}
@@ -8,7 +8,8 @@ use Rattle.reckoning.specs.Environments.{Env, empty, ◌before◌, size}
 use Rattle.reckoning.specs.Environments as plain
 use Rattle.reckoning.specs.Contexts.{Open}
 use Rattle.machine.specs.declared.operation.Operation.{Operation}
-use Rattle.machine.specs.declared.operation.Operation.TheVariants.{Argument, Applied, Bound, SumRight, SumLeft, CompareRight, CompareLeft, Condition}
+use Rattle.machine.specs.declared.operation.Operation.TheVariants.{Argument, Applied, Bound, SumRight, SumLeft}
+use Rattle.machine.specs.declared.operation.Operation.TheVariants.{CompareRight, CompareLeft, Condition}
 use Rattle.machine.specs.Handles.{StandsFor, AllStandFor, IsListOf}
 use Rattle.machine.specs.Opens.{OpenFor, Waits, op_at, Stacked}
 use Rattle.machine.specs.Opens as opens
@@ -22,10 +23,15 @@ pub record Kept (lists lists' : Lists Value) : Type 0 where
 pub same_kept : (lists lists' : Lists Value) → Same lists lists' → Kept lists lists'
 same_kept lists lists' same = record { stays = λ h l e. same h ∙ e }
 
-pub others_kept : (lists lists' : Lists Value) (k : ℕ) → lists k ≡ None → ((h : ℕ) → (h ≢ k) → lists' h ≡ lists h) → Kept lists lists'
-others_kept lists lists' k fresh others = record { stays = λ h l e. others h (λ same. some_none e (ap lists same ∙ fresh)) ∙ e }
+pub others_kept : (lists lists' : Lists Value) (k : ℕ) → lists k ≡ None → ((h : ℕ) → (h ≢ k) → lists' h ≡ lists h)
+    → Kept lists lists'
+others_kept lists lists' k fresh others = record {
+  stays = λ h l e. others h (λ same. some_none e (ap lists same
+      ∙ fresh)) ∙ e;
+}
 
-pub all_length : (rule : Rule) (lists : Lists Value) (l : List Value) (env : Env) → AllStandFor rule lists l env → length l ≡ size env
+pub all_length : (rule : Rule) (lists : Lists Value) (l : List Value) (env : Env) → AllStandFor rule lists l env
+    → length l ≡ size env
 all_length rule lists [] empty a = refl
 all_length rule lists [] (v before env) a = absurd a
 all_length rule lists (x ∷ l) empty a = absurd a
@@ -42,7 +48,15 @@ module _ (rule : Rule) (lists lists' : Lists Value) (kept : Kept lists lists') w
     value_kept (Truth c) (plain.function n b env) s = s
     value_kept (Function m h) (plain.number k) s = s
     value_kept (Function m h) (plain.truth b) s = s
-    value_kept (Function m h) (plain.function n b env) s = (s.0, s.1, (s.2.0, kept.stays h s.2.0 s.2.1, all_kept s.2.0 env s.2.2))
+    value_kept (Function m h) (plain.function n b env) s = (
+      s.0,
+      s.1,
+      (
+        s.2.0,
+        kept.stays h s.2.0 s.2.1,
+        all_kept s.2.0 env s.2.2,
+      ),
+    )
 
     pub all_kept : (l : List Value) (env : Env) → AllStandFor rule lists l env → AllStandFor rule lists' l env
     all_kept [] empty a = a
@@ -66,7 +80,8 @@ module _ (rule : Rule) (lists lists' : Lists Value) (kept : Kept lists lists') w
   open_kept (CompareLeft n x) o s = (s.0, s.1, value_kept x s.0 s.2)
   open_kept (Condition n p q h) o s = (s.0, s.1, s.2, s.3, s.4, s.5, list_kept h s.2 s.6)
 
-  pub stacked_kept : (ops : List Operation) (d : ℕ) (os : List Open) → Stacked rule lists ops d os → Stacked rule lists' ops d os
+  pub stacked_kept : (ops : List Operation) (d : ℕ) (os : List Open) → Stacked rule lists ops d os
+      → Stacked rule lists' ops d os
   stacked_kept ops zero [] s = s
   stacked_kept ops zero (o ∷ os) s = s
   stacked_kept ops (suc d) [] s = s

@@ -1,5 +1,6 @@
--- What is told of a work whose next reduction is known. Assumes nothing.
-use Rattle.std.proofs.Common.{◌≡◌, ℕ, zero, suc, ◌-◌, ◌<◌, ◌≤◌, Bool, true, false, List, [], ◌∷◌, length, ℤ, refl, sym, ap, ◌∙◌, subst, arith}
+-- What is told of a work whose next reduction is known.
+use Rattle.std.proofs.Common.{◌≡◌, ℕ, zero, suc, ◌-◌, ◌<◌, ◌≤◌, Bool, true, false, List, [], ◌∷◌, length, ℤ, refl}
+use Rattle.std.proofs.Common.{sym, ap, ◌∙◌, subst, arith}
 use Rattle.std.proofs.Math.Option.{none, some}
 use Rattle.store.specs.Lists.{Lists}
 use Rattle.values.specs.declared.Value.{Value}
@@ -13,11 +14,13 @@ use Rattle.reckoning.specs.Environments as plain
 use Rattle.reckoning.specs.Work.{Work, done}
 use Rattle.reckoning.specs.Moves.{Move, rests, beyond, stuck, plain, makes, added, move}
 use Rattle.reckoning.specs.Open.{open_nodes, nth, one_too_many}
-use Rattle.reckoning.specs.Contexts.{Open, applied, bound, compare_left, condition, node_of, inside, plugged, nodes_before, within}
+use Rattle.reckoning.specs.Contexts.{Open, applied, bound, compare_left, condition, node_of, inside, plugged}
+use Rattle.reckoning.specs.Contexts.{nodes_before, within}
 use Rattle.reckoning.specs.Reckoning.{State, waiting, over, no_stack, shortage, ahead}
 use Rattle.reckoning.proofs.Contexts.{moves_inside}
 use Rattle.machine.specs.declared.operation.Operation.{Operation}
-use Rattle.machine.specs.declared.operation.Operation.TheVariants.{Argument, Applied, Bound, SumRight, SumLeft, CompareRight, CompareLeft, Condition}
+use Rattle.machine.specs.declared.operation.Operation.TheVariants.{Argument, Applied, Bound, SumRight, SumLeft}
+use Rattle.machine.specs.declared.operation.Operation.TheVariants.{CompareRight, CompareLeft, Condition}
 use Rattle.machine.specs.declared.operations.Operations.{Operations}
 use Rattle.machine.specs.Handles.{StandsFor}
 use Rattle.machine.specs.Opens.{OpenFor, op_at, Stacked, IsReady}
@@ -58,7 +61,8 @@ compare_waits n (plain.function m b env) (plain.number k) = tt
 compare_waits n u (plain.truth b) = tt
 compare_waits n u (plain.function m b env) = tt
 
-condition_waits : (n : ℕ) (t e : Term) (env : Env) (v : plain.Value) → Waits (move (inside (condition n t e env) (done v)))
+condition_waits : (n : ℕ) (t e : Term) (env : Env) (v : plain.Value)
+    → Waits (move (inside (condition n t e env) (done v)))
 condition_waits n t e env (plain.number k) = tt
 condition_waits n t e env (plain.truth true) = tt
 condition_waits n t e env (plain.truth false) = tt
@@ -69,9 +73,11 @@ module _ (rule : Rule) (lists : Lists Value) (ops : List Operation) (d : ℕ) wh
       Waits (move (inside o (done t.value))) → ahead w (move w) ≡ waiting
   waits_inside op x w t o e h =
       let m = move (inside o (done t.value)) in
-      ap (λ y. ahead w y) (moved rule lists ops d op x w t o t.value m e refl refl (waits_not_rests m h)) ∙ waits_ahead w (plugged t.rest) m h
+      ap (λ y. ahead w y) (moved rule lists ops d op x w t o t.value m e refl refl (waits_not_rests m h))
+      ∙ waits_ahead w (plugged t.rest) m h
 
-  pub told : (op : Operation) (x : Value) (w : Work) → IsReady op → ((n : ℕ) (y : Value) → op ≡ SumLeft n y → ⊥) → InHand rule lists ops d op x w → ahead w (move w) ≡ waiting
+  pub told : (op : Operation) (x : Value) (w : Work) → IsReady op → ((n : ℕ) (y : Value) → op ≡ SumLeft n y → ⊥)
+      → InHand rule lists ops d op x w → ahead w (move w) ≡ waiting
   told (Argument n p h) x w ready not t = absurd ready
   told (SumRight n p h) x w ready not t = absurd ready
   told (CompareRight n p h) x w ready not t = absurd ready
@@ -89,7 +95,8 @@ module _ (rule : Rule) (lists : Lists Value) (ops : List Operation) (d : ℕ) wh
       let o = t.open_for in
       waits_inside (Condition n p q h) x w t (condition n o.0 o.1 o.2) o.3 (condition_waits n o.0 o.1 o.2 t.value)
 
-  sum_told_as : (n : ℕ) (i j : ℤ) (w : Work) (s : Sum) → sum_of i j ≡ s → InHand rule lists ops d (SumLeft n (Number j)) (Number i) w →
+  sum_told_as : (n : ℕ) (i j : ℤ) (w : Work) (s : Sum) → sum_of i j ≡ s
+      → InHand rule lists ops d (SumLeft n (Number j)) (Number i) w →
       ahead w (move w) ≡ state_of (sum_ahead n (Number j) (Number i))
   sum_told_as n i j w (Sum.within k) e t =
       ap (λ y. ahead w y) (sum_moves rule lists ops d n i j w t (plain (done (plain.number k)))
@@ -109,20 +116,30 @@ module _ (rule : Rule) (lists : Lists Value) (ops : List Operation) (d : ℕ) wh
   not_number_function : (m h : ℕ) (i : ℤ) → Function m h ≡ Number i → ⊥
   not_number_function m h i e = let z : ◌≡◌ {A = ℕ} 0 1 = cc in omega arith
 
-  pub sum_told : (n : ℕ) (y x : Value) (w : Work) → InHand rule lists ops d (SumLeft n y) x w → state_of (sum_ahead n y x) ≡ ahead w (move w)
+  pub sum_told : (n : ℕ) (y x : Value) (w : Work) → InHand rule lists ops d (SumLeft n y) x w
+      → state_of (sum_ahead n y x) ≡ ahead w (move w)
   sum_told n (Number j) (Number i) w t = sym (sum_told_as n i j w (sum_of i j) refl t)
-  sum_told n (Number j) (Truth c) w t = sym (stuck_told w (no_left_added rule lists ops d n (Number j) (Truth c) w (not_number_truth c) t))
-  sum_told n (Number j) (Function m h) w t = sym (stuck_told w (no_left_added rule lists ops d n (Number j) (Function m h) w (not_number_function m h) t))
-  sum_told n (Truth b) (Number i) w t = sym (stuck_told w (no_right_added rule lists ops d n (Truth b) i w (not_number_truth b) t))
-  sum_told n (Truth b) (Truth c) w t = sym (stuck_told w (no_left_added rule lists ops d n (Truth b) (Truth c) w (not_number_truth c) t))
-  sum_told n (Truth b) (Function m h) w t = sym (stuck_told w (no_left_added rule lists ops d n (Truth b) (Function m h) w (not_number_function m h) t))
-  sum_told n (Function k g) (Number i) w t = sym (stuck_told w (no_right_added rule lists ops d n (Function k g) i w (not_number_function k g) t))
-  sum_told n (Function k g) (Truth c) w t = sym (stuck_told w (no_left_added rule lists ops d n (Function k g) (Truth c) w (not_number_truth c) t))
-  sum_told n (Function k g) (Function m h) w t = sym (stuck_told w (no_left_added rule lists ops d n (Function k g) (Function m h) w (not_number_function m h) t))
+  sum_told n (Number j) (Truth c) w t = sym (stuck_told w (no_left_added rule lists ops d n (Number j) (Truth c) w
+      (not_number_truth c) t))
+  sum_told n (Number j) (Function m h) w t =
+      sym (stuck_told w (no_left_added rule lists ops d n (Number j) (Function m h) w (not_number_function m h) t))
+  sum_told n (Truth b) (Number i) w t =
+      sym (stuck_told w (no_right_added rule lists ops d n (Truth b) i w (not_number_truth b) t))
+  sum_told n (Truth b) (Truth c) w t = sym (stuck_told w (no_left_added rule lists ops d n (Truth b) (Truth c) w
+      (not_number_truth c) t))
+  sum_told n (Truth b) (Function m h) w t =
+      sym (stuck_told w (no_left_added rule lists ops d n (Truth b) (Function m h) w (not_number_function m h) t))
+  sum_told n (Function k g) (Number i) w t = sym (stuck_told w (no_right_added rule lists ops d n (Function k g) i w
+      (not_number_function k g) t))
+  sum_told n (Function k g) (Truth c) w t =
+      sym (stuck_told w (no_left_added rule lists ops d n (Function k g) (Truth c) w (not_number_truth c) t))
+  sum_told n (Function k g) (Function m h) w t =
+      sym (stuck_told w (no_left_added rule lists ops d n (Function k g) (Function m h) w (not_number_function m h) t))
 
   -- with at most 256 operations open, none is one too many
 
-  open_once : (op : Operation) (o : Open) (v : plain.Value) → IsReady op → OpenFor rule lists op o → open_nodes (inside o (done v)) ≡ node_of o ∷ []
+  open_once : (op : Operation) (o : Open) (v : plain.Value) → IsReady op → OpenFor rule lists op o
+      → open_nodes (inside o (done v)) ≡ node_of o ∷ []
   open_once (Argument n p h) o v ready s = absurd ready
   open_once (SumRight n p h) o v ready s = absurd ready
   open_once (CompareRight n p h) o v ready s = absurd ready
@@ -130,27 +147,37 @@ module _ (rule : Rule) (lists : Lists Value) (ops : List Operation) (d : ℕ) wh
   open_once (Applied n y) o v ready s = subst (λ o. open_nodes (inside o (done v)) ≡ node_of o ∷ []) (sym s.1) refl
   open_once (Bound n p h) o v ready s = subst (λ o. open_nodes (inside o (done v)) ≡ node_of o ∷ []) (sym s.2) refl
   open_once (CompareLeft n y) o v ready s = subst (λ o. open_nodes (inside o (done v)) ≡ node_of o ∷ []) (sym s.1) refl
-  open_once (Condition n p q h) o v ready s = subst (λ o. open_nodes (inside o (done v)) ≡ node_of o ∷ []) (sym s.3) refl
+  open_once (Condition n p q h) o v ready s = subst (λ o. open_nodes (inside o (done v)) ≡ node_of o ∷ [])
+      (sym s.3) refl
 
-  pub none_too_many : (op : Operation) (x : Value) (w : Work) → IsReady op → d < 256 → InHand rule lists ops d op x w → one_too_many w ≡ none
+  pub none_too_many : (op : Operation) (x : Value) (w : Work) → IsReady op → d < 256 → InHand rule lists ops d op x w
+      → one_too_many w ≡ none
   none_too_many op x w ready low t =
       let once = open_once op t.first t.value ready t.open_for in
-      let some_open : ¬ (open_nodes (inside t.first (done t.value)) ≡ []) = λ f. let g : node_of t.first ∷ [] ≡ [] = sym once ∙ f in let z : ◌≡◌ {A = ℕ} 0 1 = cc in omega arith in
+      let some_open : ¬ (open_nodes (inside t.first (done t.value)) ≡ []) = λ f.
+      let g : node_of t.first ∷ [] ≡ [] = sym once ∙ f in let z : ◌≡◌ {A = ℕ} 0 1 = cc in omega arith in
       let long : length t.rest ≡ d = stacked_length rule lists ops d t.rest t.stacked in
-      ap (λ y. one_too_many y) (sym t.whole) ∙ ap (λ y. nth 256 y) (moves_inside.same_open t.rest (inside t.first (done t.value)) some_open ∙ ap (λ y. nodes_before t.rest y) once) ∙
+      ap (λ y. one_too_many y) (sym t.whole)
+      ∙ ap (λ y. nth 256 y) (moves_inside.same_open t.rest (inside t.first (done t.value)) some_open
+      ∙ ap (λ y. nodes_before t.rest y) once) ∙
       moves_inside.no_more t.rest (node_of t.first) (omega arith)
 
 module _ (rule : Rule) (lists : Lists Value) (table : Operations) where
-  pub on_top : (op : Operation) (x : Value) (w : Work) → op ≡ op_at table.ops (table.depth - 1) → Readied rule lists table x w → InHand rule lists table.ops (table.depth - 1) op x w
-  on_top op x w e r = let h = r.some_open in taken rule lists table x w op (table.depth - 1) h (omega arith) (sym e) r.found
+  pub on_top : (op : Operation) (x : Value) (w : Work) → op ≡ op_at table.ops (table.depth - 1)
+      → Readied rule lists table x w → InHand rule lists table.ops (table.depth - 1) op x w
+  on_top op x w e r = let h = r.some_open in taken rule lists table x w op (table.depth - 1) h (omega arith)
+      (sym e) r.found
 
-  pub ready_rests : (x : Value) (w : Work) (st : State) → table.depth ≤ 256 → Readied rule lists table x w → st ≡ ahead w (move w) → st ≡ shortage none (one_too_many w) (ahead w (move w))
+  pub ready_rests : (x : Value) (w : Work) (st : State) → table.depth ≤ 256 → Readied rule lists table x w
+      → st ≡ ahead w (move w) → st ≡ shortage none (one_too_many w) (ahead w (move w))
   ready_rests x w st low r e =
       let t = on_top (op_at table.ops (table.depth - 1)) x w refl r in
       let h = r.some_open in
-      e ∙ sym (ap (λ y. shortage none y (ahead w (move w))) (none_too_many rule lists table.ops (table.depth - 1) (op_at table.ops (table.depth - 1)) x w r.ready (omega arith) t))
+      e ∙ sym (ap (λ y. shortage none y (ahead w (move w))) (none_too_many rule lists table.ops (table.depth - 1)
+      (op_at table.ops (table.depth - 1)) x w r.ready (omega arith) t))
 
-  pub no_stack_rests : (w : Work) (n : ℕ) → one_too_many w ≡ some n → no_stack n ≡ shortage none (one_too_many w) (ahead w (move w))
+  pub no_stack_rests : (w : Work) (n : ℕ) → one_too_many w ≡ some n → no_stack n ≡ shortage none (one_too_many w)
+      (ahead w (move w))
   no_stack_rests w n e = sym (ap (λ y. shortage none y (ahead w (move w))) e)
 
   answers : (x : Value) (v : plain.Value) → StandsFor rule lists x v → answer_of x ≡ plain.answer_of v
@@ -169,7 +196,9 @@ module _ (rule : Rule) (lists : Lists Value) (table : Operations) where
   none_open zero (o ∷ os) e s = absurd s
   none_open (suc d) os e s = absurd (omega arith)
 
-  pub over_rests : (x : Value) (w : Work) → table.depth ≡ 0 → HasFound rule lists table x w → over (answer_of x) ≡ shortage none (one_too_many w) (ahead w (move w))
+  pub over_rests : (x : Value) (w : Work) → table.depth ≡ 0 → HasFound rule lists table x w
+      → over (answer_of x) ≡ shortage none (one_too_many w) (ahead w (move w))
   over_rests x w e f =
-      let is : done f.value ≡ w = ap (λ os. plugged os (done f.value)) (sym (none_open table.depth f.opens e f.stacked)) ∙ f.whole in
+      let is : done f.value ≡ w = ap (λ os. plugged os (done f.value))
+      (sym (none_open table.depth f.opens e f.stacked)) ∙ f.whole in
       ap over (answers x f.value f.stands) ∙ ap (λ y. shortage none (one_too_many y) (ahead y (move y))) is

@@ -1,4 +1,4 @@
--- How many nodes are still to be met before a reduction. Assumes nothing.
+-- How many nodes are still to be met before a reduction.
 use Rattle.std.specs.Prelude.{ℕ, zero, suc, ◌+◌, ◌-◌, ◌*◌, List, length}
 use Rattle.syntax.specs.declared.node.Node.{Node}
 use Rattle.syntax.specs.declared.node.Node.TheVariants as node

@@ -1,4 +1,4 @@
--- What comes of a node that was met, or of a value that was found. Assumes nothing.
+-- What comes of a node that was met, or of a value that was found.
 use Rattle.std.specs.Prelude.{◌≡◌, ℕ, ◌<◌, List}
 use Rattle.std.proofs.Math.Option.{none, some}
 use Rattle.syntax.specs.declared.node.Node.{Node}
@@ -30,11 +30,15 @@ Ends rule r lists free left table (NoStack n) w = one_too_many w ≡ some n
 
 -- Nearer to a reduction of the work w, or to the work that it moves to; or w is known to wait or to have ended.
 abbrev pub Goes : Rule → Room → Lists Value → Lists Value → ℕ → ℕ → ℕ → Operations → Gone → Work → Type 0
-Goes rule r lists lists' free free' left table (Nearer to) w = Same lists lists' × (free' ≡ free) × Follows rule lists' table to w
+Goes rule r lists lists' free free' left table (Nearer to) w = Same lists lists' × (free' ≡ free)
+    × Follows rule lists' table to w
 Goes rule r lists lists' free free' left table (On to) w =
-    (0 < left) × (one_too_many w ≡ none) × (u : Work) × Moved rule r lists lists' free free' (move w) u × Follows rule lists' table to u
-Goes rule r lists lists' free free' left table (Waits x) w = (left ≡ 0) × Same lists lists' × (free' ≡ free) × Readied rule lists' table x w
-Goes rule r lists lists' free free' left table (Ended st) w = Same lists lists' × (free' ≡ free) × Ends rule r lists' free left table st w
+    (0 < left) × (one_too_many w ≡ none) × (u : Work) × Moved rule r lists lists' free free' (move w) u
+    × Follows rule lists' table to u
+Goes rule r lists lists' free free' left table (Waits x) w = (left ≡ 0) × Same lists lists' × (free' ≡ free)
+    × Readied rule lists' table x w
+Goes rule r lists lists' free free' left table (Ended st) w = Same lists lists' × (free' ≡ free)
+    × Ends rule r lists' free left table st w
 
 -- with no reduction, fewer than k nodes are still to be met
 abbrev pub Lessens : List Node → Operations → Gone → ℕ → Type 0

@@ -1,4 +1,4 @@
--- Run values for values on plain lists, and the handles of environments. Assumes nothing.
+-- Run values for values on plain lists, and the handles of environments.
 use Rattle.std.specs.Prelude.{◌≡◌, ◌≢◌, ◌⊎◌, ℕ, List, [], ◌∷◌, Some, None}
 use Rattle.store.specs.Lists.{Lists}
 use Rattle.values.specs.declared.Value.{Value}
@@ -8,7 +8,8 @@ use Rattle.reckoning.specs.Environments as plain
 use Rattle.machine.specs.Places.{Rule, BodyOf}
 
 -- A run value stands for a value on plain lists, in a store that gives handles these lists: numbers and truths for
--- themselves, a function for that of its node, whose body is the node's and whose environment is the list of the handle.
+-- themselves, a function for that of its node, whose body is the node's and whose environment is the list of the
+-- handle.
 abbrev mutual
   pub StandsFor : Rule → Lists Value → Value → plain.Value → Type 0
   StandsFor rule lists (Number j) (plain.number k) = j ≡ k

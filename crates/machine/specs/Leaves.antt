@@ -1,4 +1,4 @@
--- Operands that are worked out at once. Assumes nothing.
+-- Operands that are worked out at once.
 use Rattle.std.specs.Prelude.{◌≡◌, ◌≢◌, ℕ, List, Some, None, Option}
 use Rattle.store.specs.Lists.{Lists}
 use Rattle.values.specs.declared.Value.{Value}

@@ -1,4 +1,4 @@
--- The table's operations for the open operations on plain lists. Assumes nothing.
+-- The table's operations for the open operations on plain lists.
 use Rattle.std.specs.Prelude.{◌≡◌, ℕ, zero, suc, ◌+◌, ◌-◌, ◌<◌, List, [], ◌∷◌, slice_index_or, pos}
 use Rattle.syntax.specs.Tree.{nodes}
 use Rattle.syntax.specs.declared.node.Node.{Node}
@@ -10,9 +10,11 @@ use Rattle.record.specs.Nodes.{node_at}
 use Rattle.calculus.specs.Term.{Term}
 use Rattle.reckoning.specs.Environments.{Env, size}
 use Rattle.reckoning.specs.Environments as plain
-use Rattle.reckoning.specs.Contexts.{Open, argument, applied, bound, sum_right, sum_left, compare_right, compare_left, condition}
+use Rattle.reckoning.specs.Contexts.{Open, argument, applied, bound, sum_right, sum_left, compare_right, compare_left}
+use Rattle.reckoning.specs.Contexts.{condition}
 use Rattle.machine.specs.declared.operation.Operation.{Operation}
-use Rattle.machine.specs.declared.operation.Operation.TheVariants.{Argument, Applied, Bound, SumRight, SumLeft, CompareRight, CompareLeft, Condition}
+use Rattle.machine.specs.declared.operation.Operation.TheVariants.{Argument, Applied, Bound, SumRight, SumLeft}
+use Rattle.machine.specs.declared.operation.Operation.TheVariants.{CompareRight, CompareLeft, Condition}
 use Rattle.machine.specs.Places.{Rule, At}
 use Rattle.machine.specs.Handles.{StandsFor, IsListOf}
 
@@ -73,14 +75,19 @@ pub record Waits (rule : Rule) (lists : Lists Value) (p h wide : ℕ) (t : Term)
   pub sized : wide ≡ nodes at.tree
 
 abbrev pub OpenFor : Rule → Lists Value → Operation → Open → Type 0
-OpenFor rule lists (Argument n p h) o = (t : Term) × (env : Env) × (o ≡ argument n t env) × Waits rule lists p h (span (node_at rule.nodes n)) t env
+OpenFor rule lists (Argument n p h) o = (t : Term) × (env : Env) × (o ≡ argument n t env)
+    × Waits rule lists p h (span (node_at rule.nodes n)) t env
 OpenFor rule lists (Applied n x) o = (v : plain.Value) × (o ≡ applied n v) × StandsFor rule lists x v
-OpenFor rule lists (Bound n p h) o = (t : Term) × (env : Env) × (o ≡ bound n t env) × At rule (suc (size env)) p t × IsListOf rule lists h env
-OpenFor rule lists (SumRight n p h) o = (t : Term) × (env : Env) × (o ≡ sum_right n t env) × Waits rule lists p h (span (node_at rule.nodes n)) t env
+OpenFor rule lists (Bound n p h) o = (t : Term) × (env : Env) × (o ≡ bound n t env) × At rule (suc (size env)) p t
+    × IsListOf rule lists h env
+OpenFor rule lists (SumRight n p h) o = (t : Term) × (env : Env) × (o ≡ sum_right n t env)
+    × Waits rule lists p h (span (node_at rule.nodes n)) t env
 OpenFor rule lists (SumLeft n x) o = (v : plain.Value) × (o ≡ sum_left n v) × StandsFor rule lists x v
-OpenFor rule lists (CompareRight n p h) o = (t : Term) × (env : Env) × (o ≡ compare_right n t env) × Waits rule lists p h (span (node_at rule.nodes n)) t env
+OpenFor rule lists (CompareRight n p h) o = (t : Term) × (env : Env) × (o ≡ compare_right n t env)
+    × Waits rule lists p h (span (node_at rule.nodes n)) t env
 OpenFor rule lists (CompareLeft n x) o = (v : plain.Value) × (o ≡ compare_left n v) × StandsFor rule lists x v
-OpenFor rule lists (Condition n p q h) o = (t e : Term) × (env : Env) × (o ≡ condition n t e env) × At rule (size env) p t × At rule (size env) q e × IsListOf rule lists h env
+OpenFor rule lists (Condition n p q h) o = (t e : Term) × (env : Env) × (o ≡ condition n t e env)
+    × At rule (size env) p t × At rule (size env) q e × IsListOf rule lists h env
 
 -- the operation at a place of the table
 abbrev pub op_at : List Operation → ℕ → Operation

@@ -1,4 +1,4 @@
--- One reduction: what the machine does for each move. Assumes nothing.
+-- One reduction: what the machine does for each move.
 use Rattle.std.specs.Prelude.{◌≡◌, ◌≢◌, ℕ, ◌+◌, ◌<◌, List, length, None}
 use Rattle.store.specs.Lists.{Lists, Same, Made}
 use Rattle.values.specs.declared.Value.{Value}
@@ -33,8 +33,10 @@ Moved rule r lists lists' free free' (plain u) w = (u ≡ w) × Same lists lists
 Moved rule r lists lists' free free' (makes n env u) w = (u ≡ w) × MakesList rule r lists lists' free free' env
 
 abbrev pub Reduces : Rule → Room → Lists Value → Lists Value → ℕ → ℕ → Operations → Reduced → Work → Type 0
-Reduces rule r lists lists' free free' table (Found x) w = (u : Work) × Moved rule r lists lists' free free' (move w) u × HasFound rule lists' table x u
-Reduces rule r lists lists' free free' table (Body p h) w = (u : Work) × Moved rule r lists lists' free free' (move w) u × Meets rule lists' table p h u
+Reduces rule r lists lists' free free' table (Found x) w = (u : Work) × Moved rule r lists lists' free free'
+    (move w) u × HasFound rule lists' table x u
+Reduces rule r lists lists' free free' table (Body p h) w = (u : Work) × Moved rule r lists lists' free free'
+    (move w) u × Meets rule lists' table p h u
 Reduces rule r lists lists' free free' table (Range n out) w = (move w ≡ beyond n) × Same lists lists' × (free' ≡ free)
 Reduces rule r lists lists' free free' table (NoStore n) w =
     (env : Env) × (u : Work) × (move w ≡ makes n env u) × (free < price r env) × Same lists lists' × (free' ≡ free)

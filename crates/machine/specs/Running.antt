@@ -1,4 +1,4 @@
--- Where a run stands. Assumes nothing.
+-- Where a run stands.
 use Rattle.std.specs.Prelude.{◌≡◌, ◌≢◌, ℕ, ◌≤◌, ℤ, List, length, None, Result, Ok, Err}
 use Rattle.std.proofs.Math.Option.{none}
 use Rattle.syntax.specs.Tree.{Tree, nodes}
@@ -50,7 +50,8 @@ sum_ahead n (value.Truth b) x = Waiting
 sum_ahead n (value.Function m h) x = Waiting
 
 -- The run stands where s is: any s, however it came there.
-pub record StandsAt (rule : Rule) (lists : Lists Value) (room : Room) (left : ℕ) (root : Root) (run : Machine) (s : Reckoned) : Type 0 where
+pub record StandsAt (rule : Rule) (lists : Lists Value) (room : Room) (left : ℕ) (root : Root) (run : Machine)
+    (s : Reckoned) : Type 0 where
   pub in_state : state_of run.state ≡ state s
   pub counted : run.count ≡ s.count
   pub left_free : left ≡ free room s.made
@@ -65,21 +66,24 @@ NeverStuck room s = (n : ℕ) → move (steps room n s).work ≢ stuck
 abbrev pub NotStuckFor : Room → ℕ → Reckoned → Type 0
 NotStuckFor room k s = (n : ℕ) → n ≤ k → move (steps room n s).work ≢ stuck
 
--- The table holds this tree, the list of the handle is these readings, no other handle has a list, and all room is free.
-pub record Begins (rule : Rule) (lists : Lists Value) (whole left : ℕ) (h : ℕ) (t : Tree) (readings : List ℤ) : Type 0 where
-  pub holds : Holds rule.nodes 0 0 t
-  pub inside : nodes t ≤ length rule.nodes
-  pub as_many : rule.readings ≡ length readings
-  pub environment : IsListOf rule lists h (base readings)
-  pub alone : (k : ℕ) → (k ≢ h) → lists k ≡ None
-  pub unspent : left ≡ whole
+-- The table holds this tree, the list of the handle is these readings, no other handle has a list, and all room is
+-- free.
+pub record Begins (rule : Rule) (lists : Lists Value) (whole left : ℕ) (h : ℕ) (t : Tree) (readings : List ℤ) : Type 0
+  where
+    pub holds : Holds rule.nodes 0 0 t
+    pub inside : nodes t ≤ length rule.nodes
+    pub as_many : rule.readings ≡ length readings
+    pub environment : IsListOf rule lists h (base readings)
+    pub alone : (k : ℕ) → (k ≢ h) → lists k ≡ None
+    pub unspent : left ≡ whole
 
 -- these readings, the list of this handle
 abbrev pub rooted : ℕ → List ℤ → Root
 rooted h readings = record { handle = h; environment = base readings }
 
 -- The run goes on with what is next, where s is, and was not refused room.
-pub record OnTheWay (rule : Rule) (lists : Lists Value) (room : Room) (left : ℕ) (root : Root) (table : Operations) (next : Next) (s : Reckoned) : Type 0 where
+pub record OnTheWay (rule : Rule) (lists : Lists Value) (room : Room) (left : ℕ) (root : Root) (table : Operations)
+    (next : Next) (s : Reckoned) : Type 0 where
   pub left_free : left ≡ free room s.made
   pub lists_made : Owned rule lists root s.made
   pub not_refused : s.refused ≡ none

@@ -1,4 +1,4 @@
--- What a table of operations and a focus stand for: the whole work. Assumes nothing.
+-- What a table of operations and a focus stand for: the whole work.
 use Rattle.std.specs.Prelude.{◌≡◌, ℕ, ◌-◌, ◌<◌, List}
 use Rattle.store.specs.Lists.{Lists}
 use Rattle.values.specs.declared.Value.{Value}
@@ -40,7 +40,8 @@ pub record Readied (rule : Rule) (lists : Lists Value) (table : Operations) (x :
   pub found : HasFound rule lists table x w
 
 -- The whole work w, with an operation in hand within the first d of the table, its focus the value x, which was found.
-pub record InHand (rule : Rule) (lists : Lists Value) (ops : List Operation) (d : ℕ) (op : Operation) (x : Value) (w : Work) : Type 0 where
+pub record InHand (rule : Rule) (lists : Lists Value) (ops : List Operation) (d : ℕ) (op : Operation) (x : Value)
+    (w : Work) : Type 0 where
   pub first : Open
   pub rest : List Open
   pub value : plain.Value
@@ -50,7 +51,8 @@ pub record InHand (rule : Rule) (lists : Lists Value) (ops : List Operation) (d 
   pub whole : plugged rest (inside first (done value)) ≡ w
 
 -- The same, its focus the node at place p, to be met in the environment of handle h.
-pub record Opening (rule : Rule) (lists : Lists Value) (ops : List Operation) (d : ℕ) (op : Operation) (p h : ℕ) (w : Work) : Type 0 where
+pub record Opening (rule : Rule) (lists : Lists Value) (ops : List Operation) (d : ℕ) (op : Operation) (p h : ℕ)
+    (w : Work) : Type 0 where
   pub first : Open
   pub rest : List Open
   pub term : Term

@@ -33,8 +33,12 @@ pub fn ready<W: Environments>(
 ) -> Gone
     requires room { table.old.depth < 256 }
     requires ready { IsReady op }
-    requires hand { (w : Work) × InHand (rule_of nodes.now (W.Store.base store.old)) (W.Store.lists store.old) table.old.ops table.old.depth op value w × (move w ≢ stuck) }
-    ensures goes { (w : Work) → InHand (rule_of nodes.now (W.Store.base store.old)) (W.Store.lists store.old) table.old.ops table.old.depth op value w → Goes (rule_of nodes.now (W.Store.base store.old)) (room_of (W.Store.whole store.old) (W.Store.cost store.old)) (W.Store.lists store.old) (W.Store.lists store.new) (W.Store.room store.old) (W.Store.room store.new) left table.new result w }
+    requires hand { (w : Work) × InHand (rule_of nodes.now (W.Store.base store.old)) (W.Store.lists store.old)
+        table.old.ops table.old.depth op value w × (move w ≢ stuck) }
+    ensures goes { (w : Work) → InHand (rule_of nodes.now (W.Store.base store.old)) (W.Store.lists store.old)
+        table.old.ops table.old.depth op value w → Goes (rule_of nodes.now (W.Store.base store.old))
+        (room_of (W.Store.whole store.old) (W.Store.cost store.old)) (W.Store.lists store.old)
+        (W.Store.lists store.new) (W.Store.room store.old) (W.Store.room store.new) left table.new result w }
     ensures lessens { (k : ℕ) → Lessens nodes.now table.new result k }
     ensures still { left ≡ 0 → store.new ≡ store.old }
     ensures base { W.Store.base store.new ≡ W.Store.base store.old }
@@ -78,8 +82,12 @@ pub fn operand<W: Environments>(
 ) -> Gone
     requires room { table.old.depth < 256 }
     requires ready { IsReady op }
-    requires opening { (w : Work) × Opening (rule_of nodes.now (W.Store.base store.old)) (W.Store.lists store.old) table.old.ops table.old.depth op place environment w × (move w ≢ stuck) }
-    ensures goes { (w : Work) → Opening (rule_of nodes.now (W.Store.base store.old)) (W.Store.lists store.old) table.old.ops table.old.depth op place environment w → Goes (rule_of nodes.now (W.Store.base store.old)) (room_of (W.Store.whole store.old) (W.Store.cost store.old)) (W.Store.lists store.old) (W.Store.lists store.new) (W.Store.room store.old) (W.Store.room store.new) left table.new result w }
+    requires opening { (w : Work) × Opening (rule_of nodes.now (W.Store.base store.old)) (W.Store.lists store.old)
+        table.old.ops table.old.depth op place environment w × (move w ≢ stuck) }
+    ensures goes { (w : Work) → Opening (rule_of nodes.now (W.Store.base store.old)) (W.Store.lists store.old)
+        table.old.ops table.old.depth op place environment w → Goes (rule_of nodes.now (W.Store.base store.old))
+        (room_of (W.Store.whole store.old) (W.Store.cost store.old)) (W.Store.lists store.old)
+        (W.Store.lists store.new) (W.Store.room store.old) (W.Store.room store.new) left table.new result w }
     ensures lessens { (k : ℕ) → to_meet nodes.now table.old place < k → Lessens nodes.now table.new result k }
     ensures still { left ≡ 0 → store.new ≡ store.old }
     ensures base { W.Store.base store.new ≡ W.Store.base store.old }

@@ -43,7 +43,9 @@ fn enter_body<W: Environments>(
     value: Value,
 ) -> Reduced
     requires known { (l : List RunValue) × (W.Store.lists store.old environment ≡ Some l) }
-    ensures extends { (l : List RunValue) → W.Store.lists store.old environment ≡ Some l → Extends (W.Store.lists store.old) (W.Store.lists store.new) (W.Store.room store.old) (W.Store.room store.new) (W.Store.cost store.old) l value node place result }
+    ensures extends { (l : List RunValue) → W.Store.lists store.old environment ≡ Some l
+        → Extends (W.Store.lists store.old) (W.Store.lists store.new) (W.Store.room store.old)
+        (W.Store.room store.new) (W.Store.cost store.old) l value node place result }
     ensures base { W.Store.base store.new ≡ W.Store.base store.old }
     ensures whole { W.Store.whole store.new ≡ W.Store.whole store.old }
     ensures cost { W.Store.cost store.new ≡ W.Store.cost store.old }
@@ -66,8 +68,13 @@ fn apply<W: Environments>(
     argument: Value,
     value: Value,
 ) -> Reduced
-    requires hand { (ops : List Op) × (d : ℕ) × (w : Work) × InHand (rule_of nodes.now (W.Store.base store.old)) (W.Store.lists store.old) ops d (Applied node argument) value w × (move w ≢ stuck) }
-    ensures reduces { (table : Operations) (w : Work) → InHand (rule_of nodes.now (W.Store.base store.old)) (W.Store.lists store.old) table.ops table.depth (Applied node argument) value w → Reduces (rule_of nodes.now (W.Store.base store.old)) (room_of (W.Store.whole store.old) (W.Store.cost store.old)) (W.Store.lists store.old) (W.Store.lists store.new) (W.Store.room store.old) (W.Store.room store.new) table result w }
+    requires hand { (ops : List Op) × (d : ℕ) × (w : Work) × InHand (rule_of nodes.now (W.Store.base store.old))
+        (W.Store.lists store.old) ops d (Applied node argument) value w × (move w ≢ stuck) }
+    ensures reduces { (table : Operations) (w : Work) → InHand (rule_of nodes.now (W.Store.base store.old))
+        (W.Store.lists store.old) table.ops table.depth (Applied node argument) value w
+        → Reduces (rule_of nodes.now (W.Store.base store.old)) (room_of (W.Store.whole store.old)
+        (W.Store.cost store.old)) (W.Store.lists store.old) (W.Store.lists store.new) (W.Store.room store.old)
+        (W.Store.room store.new) table result w }
     ensures base { W.Store.base store.new ≡ W.Store.base store.old }
     ensures whole { W.Store.whole store.new ≡ W.Store.whole store.old }
     ensures cost { W.Store.cost store.new ≡ W.Store.cost store.old }
@@ -95,8 +102,13 @@ fn bind<W: Environments>(
     environment: u32,
     value: Value,
 ) -> Reduced
-    requires hand { (ops : List Op) × (d : ℕ) × (w : Work) × InHand (rule_of nodes.now (W.Store.base store.old)) (W.Store.lists store.old) ops d (Bound node body environment) value w }
-    ensures reduces { (table : Operations) (w : Work) → InHand (rule_of nodes.now (W.Store.base store.old)) (W.Store.lists store.old) table.ops table.depth (Bound node body environment) value w → Reduces (rule_of nodes.now (W.Store.base store.old)) (room_of (W.Store.whole store.old) (W.Store.cost store.old)) (W.Store.lists store.old) (W.Store.lists store.new) (W.Store.room store.old) (W.Store.room store.new) table result w }
+    requires hand { (ops : List Op) × (d : ℕ) × (w : Work) × InHand (rule_of nodes.now (W.Store.base store.old))
+        (W.Store.lists store.old) ops d (Bound node body environment) value w }
+    ensures reduces { (table : Operations) (w : Work) → InHand (rule_of nodes.now (W.Store.base store.old))
+        (W.Store.lists store.old) table.ops table.depth (Bound node body environment) value w
+        → Reduces (rule_of nodes.now (W.Store.base store.old)) (room_of (W.Store.whole store.old)
+        (W.Store.cost store.old)) (W.Store.lists store.old) (W.Store.lists store.new) (W.Store.room store.old)
+        (W.Store.room store.new) table result w }
     ensures base { W.Store.base store.new ≡ W.Store.base store.old }
     ensures whole { W.Store.whole store.new ≡ W.Store.whole store.old }
     ensures cost { W.Store.cost store.new ≡ W.Store.cost store.old }
@@ -107,8 +119,11 @@ fn bind<W: Environments>(
 /// Two numbers are added.
 #[inline(always)]
 fn add(node: u16, right: Value, value: Value) -> Reduced
-    requires { (rule : Rule) × (lists : Lists RunValue) × (ops : List Op) × (d : ℕ) × (w : Work) × InHand rule lists ops d (SumLeft node right) value w × (move w ≢ stuck) }
-    ensures { (rule : Rule) (r : Room) (lists : Lists RunValue) (free : ℕ) (table : Operations) (w : Work) → InHand rule lists table.ops table.depth (SumLeft node right) value w → Reduces rule r lists lists free free table result w }
+    requires { (rule : Rule) × (lists : Lists RunValue) × (ops : List Op) × (d : ℕ) × (w : Work)
+        × InHand rule lists ops d (SumLeft node right) value w × (move w ≢ stuck) }
+    ensures { (rule : Rule) (r : Room) (lists : Lists RunValue) (free : ℕ) (table : Operations) (w : Work)
+        → InHand rule lists table.ops table.depth (SumLeft node right) value w
+        → Reduces rule r lists lists free free table result w }
 {
     let Value::Number(left) = value else {
         unreachable!()
@@ -125,8 +140,11 @@ fn add(node: u16, right: Value, value: Value) -> Reduced
 /// Two numbers are compared.
 #[inline(always)]
 fn compare(node: u16, right: Value, value: Value) -> Reduced
-    requires { (rule : Rule) × (lists : Lists RunValue) × (ops : List Op) × (d : ℕ) × (w : Work) × InHand rule lists ops d (CompareLeft node right) value w × (move w ≢ stuck) }
-    ensures { (rule : Rule) (r : Room) (lists : Lists RunValue) (free : ℕ) (table : Operations) (w : Work) → InHand rule lists table.ops table.depth (CompareLeft node right) value w → Reduces rule r lists lists free free table result w }
+    requires { (rule : Rule) × (lists : Lists RunValue) × (ops : List Op) × (d : ℕ) × (w : Work)
+        × InHand rule lists ops d (CompareLeft node right) value w × (move w ≢ stuck) }
+    ensures { (rule : Rule) (r : Room) (lists : Lists RunValue) (free : ℕ) (table : Operations) (w : Work)
+        → InHand rule lists table.ops table.depth (CompareLeft node right) value w
+        → Reduces rule r lists lists free free table result w }
 {
     let Value::Number(left) = value else {
         unreachable!()
@@ -140,8 +158,11 @@ fn compare(node: u16, right: Value, value: Value) -> Reduced
 /// A branch is chosen.
 #[inline(always)]
 fn choose(node: u16, then: u16, otherwise: u16, environment: u32, value: Value) -> Reduced
-    requires { (rule : Rule) × (lists : Lists RunValue) × (ops : List Op) × (d : ℕ) × (w : Work) × InHand rule lists ops d (Condition node then otherwise environment) value w × (move w ≢ stuck) }
-    ensures { (rule : Rule) (r : Room) (lists : Lists RunValue) (free : ℕ) (table : Operations) (w : Work) → InHand rule lists table.ops table.depth (Condition node then otherwise environment) value w → Reduces rule r lists lists free free table result w }
+    requires { (rule : Rule) × (lists : Lists RunValue) × (ops : List Op) × (d : ℕ) × (w : Work)
+        × InHand rule lists ops d (Condition node then otherwise environment) value w × (move w ≢ stuck) }
+    ensures { (rule : Rule) (r : Room) (lists : Lists RunValue) (free : ℕ) (table : Operations) (w : Work)
+        → InHand rule lists table.ops table.depth (Condition node then otherwise environment) value w
+        → Reduces rule r lists lists free free table result w }
 {
     let Value::Truth(truth) = value else {
         unreachable!()
@@ -161,8 +182,13 @@ pub fn reduce<W: Environments>(
     value: Value,
 ) -> Reduced
     requires ready { IsReady op }
-    requires hand { (ops : List Op) × (d : ℕ) × (w : Work) × InHand (rule_of nodes.now (W.Store.base store.old)) (W.Store.lists store.old) ops d op value w × (move w ≢ stuck) }
-    ensures reduces { (table : Operations) (w : Work) → InHand (rule_of nodes.now (W.Store.base store.old)) (W.Store.lists store.old) table.ops table.depth op value w → Reduces (rule_of nodes.now (W.Store.base store.old)) (room_of (W.Store.whole store.old) (W.Store.cost store.old)) (W.Store.lists store.old) (W.Store.lists store.new) (W.Store.room store.old) (W.Store.room store.new) table result w }
+    requires hand { (ops : List Op) × (d : ℕ) × (w : Work) × InHand (rule_of nodes.now (W.Store.base store.old))
+        (W.Store.lists store.old) ops d op value w × (move w ≢ stuck) }
+    ensures reduces { (table : Operations) (w : Work) → InHand (rule_of nodes.now (W.Store.base store.old))
+        (W.Store.lists store.old) table.ops table.depth op value w
+        → Reduces (rule_of nodes.now (W.Store.base store.old)) (room_of (W.Store.whole store.old)
+        (W.Store.cost store.old)) (W.Store.lists store.old) (W.Store.lists store.new) (W.Store.room store.old)
+        (W.Store.room store.new) table result w }
     ensures base { W.Store.base store.new ≡ W.Store.base store.old }
     ensures whole { W.Store.whole store.new ≡ W.Store.whole store.old }
     ensures cost { W.Store.cost store.new ≡ W.Store.cost store.old }

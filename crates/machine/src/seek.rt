@@ -50,7 +50,9 @@ pub fn leaf<W: Environments>(
     environment: u32,
 ) -> Option<Value>
     requires { GoesOn (rule_of nodes.now (W.Store.base store.now)) (W.Store.lists store.now) place environment }
-    ensures value { (t : Term) (env : Env) → At (rule_of nodes.now (W.Store.base store.now)) (size env) place t → IsListOf (rule_of nodes.now (W.Store.base store.now)) (W.Store.lists store.now) environment env → AtOnce (rule_of nodes.now (W.Store.base store.now)) (W.Store.lists store.now) t env result }
+    ensures value { (t : Term) (env : Env) → At (rule_of nodes.now (W.Store.base store.now)) (size env) place t
+        → IsListOf (rule_of nodes.now (W.Store.base store.now)) (W.Store.lists store.now) environment env
+        → AtOnce (rule_of nodes.now (W.Store.base store.now)) (W.Store.lists store.now) t env result }
     ensures operation { result ≡ None → IsOperation (node_at nodes.now place) }
 {
     match node(nodes, place) {
@@ -84,8 +86,12 @@ fn enter_numbers<W: Environments>(
 ) -> Gone
     requires room { table.old.depth < 256 }
     requires numbers { IsOfNumbers (node_at nodes.now place) }
-    requires meets { (w : Work) × Meets (rule_of nodes.now (W.Store.base store.old)) (W.Store.lists store.old) table.old place environment w × (move w ≢ stuck) }
-    ensures goes { (w : Work) → Meets (rule_of nodes.now (W.Store.base store.old)) (W.Store.lists store.old) table.old place environment w → Goes (rule_of nodes.now (W.Store.base store.old)) (room_of (W.Store.whole store.old) (W.Store.cost store.old)) (W.Store.lists store.old) (W.Store.lists store.new) (W.Store.room store.old) (W.Store.room store.new) left table.new result w }
+    requires meets { (w : Work) × Meets (rule_of nodes.now (W.Store.base store.old)) (W.Store.lists store.old)
+        table.old place environment w × (move w ≢ stuck) }
+    ensures goes { (w : Work) → Meets (rule_of nodes.now (W.Store.base store.old)) (W.Store.lists store.old) table.old
+        place environment w → Goes (rule_of nodes.now (W.Store.base store.old)) (room_of (W.Store.whole store.old)
+        (W.Store.cost store.old)) (W.Store.lists store.old) (W.Store.lists store.new) (W.Store.room store.old)
+        (W.Store.room store.new) left table.new result w }
     ensures lessens { Lessens nodes.now table.new result (to_meet nodes.now table.old place) }
     ensures still { left ≡ 0 → store.new ≡ store.old }
     ensures base { W.Store.base store.new ≡ W.Store.base store.old }
@@ -138,8 +144,12 @@ fn enter_operation<W: Environments>(
 ) -> Gone
     requires room { table.old.depth < 256 }
     requires operation { IsOperation (node_at nodes.now place) }
-    requires meets { (w : Work) × Meets (rule_of nodes.now (W.Store.base store.old)) (W.Store.lists store.old) table.old place environment w × (move w ≢ stuck) }
-    ensures goes { (w : Work) → Meets (rule_of nodes.now (W.Store.base store.old)) (W.Store.lists store.old) table.old place environment w → Goes (rule_of nodes.now (W.Store.base store.old)) (room_of (W.Store.whole store.old) (W.Store.cost store.old)) (W.Store.lists store.old) (W.Store.lists store.new) (W.Store.room store.old) (W.Store.room store.new) left table.new result w }
+    requires meets { (w : Work) × Meets (rule_of nodes.now (W.Store.base store.old)) (W.Store.lists store.old)
+        table.old place environment w × (move w ≢ stuck) }
+    ensures goes { (w : Work) → Meets (rule_of nodes.now (W.Store.base store.old)) (W.Store.lists store.old) table.old
+        place environment w → Goes (rule_of nodes.now (W.Store.base store.old)) (room_of (W.Store.whole store.old)
+        (W.Store.cost store.old)) (W.Store.lists store.old) (W.Store.lists store.new) (W.Store.room store.old)
+        (W.Store.room store.new) left table.new result w }
     ensures lessens { Lessens nodes.now table.new result (to_meet nodes.now table.old place) }
     ensures still { left ≡ 0 → store.new ≡ store.old }
     ensures base { W.Store.base store.new ≡ W.Store.base store.old }
@@ -195,8 +205,12 @@ pub fn enter<W: Environments>(
     environment: u32,
     left: u32,
 ) -> Gone
-    requires meets { (w : Work) × Meets (rule_of nodes.now (W.Store.base store.old)) (W.Store.lists store.old) table.old place environment w × (move w ≢ stuck) }
-    ensures goes { (w : Work) → Meets (rule_of nodes.now (W.Store.base store.old)) (W.Store.lists store.old) table.old place environment w → Goes (rule_of nodes.now (W.Store.base store.old)) (room_of (W.Store.whole store.old) (W.Store.cost store.old)) (W.Store.lists store.old) (W.Store.lists store.new) (W.Store.room store.old) (W.Store.room store.new) left table.new result w }
+    requires meets { (w : Work) × Meets (rule_of nodes.now (W.Store.base store.old)) (W.Store.lists store.old)
+        table.old place environment w × (move w ≢ stuck) }
+    ensures goes { (w : Work) → Meets (rule_of nodes.now (W.Store.base store.old)) (W.Store.lists store.old) table.old
+        place environment w → Goes (rule_of nodes.now (W.Store.base store.old)) (room_of (W.Store.whole store.old)
+        (W.Store.cost store.old)) (W.Store.lists store.old) (W.Store.lists store.new) (W.Store.room store.old)
+        (W.Store.room store.new) left table.new result w }
     ensures lessens { Lessens nodes.now table.new result (to_meet nodes.now table.old place) }
     ensures still { left ≡ 0 → store.new ≡ store.old }
     ensures base { W.Store.base store.new ≡ W.Store.base store.old }

@@ -30,8 +30,12 @@ fn come_back<W: Environments>(
     value: Value,
     left: u32,
 ) -> Gone
-    requires found { (w : Work) × HasFound (rule_of nodes.now (W.Store.base store.old)) (W.Store.lists store.old) table.old value w × (move w ≢ stuck) }
-    ensures goes { (w : Work) → HasFound (rule_of nodes.now (W.Store.base store.old)) (W.Store.lists store.old) table.old value w → Goes (rule_of nodes.now (W.Store.base store.old)) (room_of (W.Store.whole store.old) (W.Store.cost store.old)) (W.Store.lists store.old) (W.Store.lists store.new) (W.Store.room store.old) (W.Store.room store.new) left table.new result w }
+    requires found { (w : Work) × HasFound (rule_of nodes.now (W.Store.base store.old)) (W.Store.lists store.old)
+        table.old value w × (move w ≢ stuck) }
+    ensures goes { (w : Work) → HasFound (rule_of nodes.now (W.Store.base store.old)) (W.Store.lists store.old)
+        table.old value w → Goes (rule_of nodes.now (W.Store.base store.old)) (room_of (W.Store.whole store.old)
+        (W.Store.cost store.old)) (W.Store.lists store.old) (W.Store.lists store.new) (W.Store.room store.old)
+        (W.Store.room store.new) left table.new result w }
     ensures lessens { Lessens nodes.now table.new result (to_go nodes.now table.old (next_is.Value value)) }
     ensures still { left ≡ 0 → store.new ≡ store.old }
     ensures base { W.Store.base store.new ≡ W.Store.base store.old }
@@ -89,8 +93,12 @@ pub fn go_on<W: Environments>(
     next: Next,
     left: u32,
 ) -> Gone
-    requires follows { (w : Work) × Follows (rule_of nodes.now (W.Store.base store.old)) (W.Store.lists store.old) table.old next w × (move w ≢ stuck) }
-    ensures goes { (w : Work) → Follows (rule_of nodes.now (W.Store.base store.old)) (W.Store.lists store.old) table.old next w → Goes (rule_of nodes.now (W.Store.base store.old)) (room_of (W.Store.whole store.old) (W.Store.cost store.old)) (W.Store.lists store.old) (W.Store.lists store.new) (W.Store.room store.old) (W.Store.room store.new) left table.new result w }
+    requires follows { (w : Work) × Follows (rule_of nodes.now (W.Store.base store.old)) (W.Store.lists store.old)
+        table.old next w × (move w ≢ stuck) }
+    ensures goes { (w : Work) → Follows (rule_of nodes.now (W.Store.base store.old)) (W.Store.lists store.old)
+        table.old next w → Goes (rule_of nodes.now (W.Store.base store.old)) (room_of (W.Store.whole store.old)
+        (W.Store.cost store.old)) (W.Store.lists store.old) (W.Store.lists store.new) (W.Store.room store.old)
+        (W.Store.room store.new) left table.new result w }
     ensures lessens { Lessens nodes.now table.new result (to_go nodes.now table.old next) }
     ensures still { left ≡ 0 → store.new ≡ store.old }
     ensures base { W.Store.base store.new ≡ W.Store.base store.old }

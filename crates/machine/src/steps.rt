@@ -63,7 +63,8 @@ fn sum_ahead(node: u16, right: Value, left: Value) -> State
 /// What is told of the reduction that is next.
 fn ahead(table: &Operations, value: Value) -> State
     requires { 0 < table.now.depth }
-    ensures { (rule : Rule) (lists : Lists Value_) (w : Work) → Readied rule lists table.now value w → state_of result ≡ next_state w (move w) }
+    ensures { (rule : Rule) (lists : Lists Value_) (w : Work) → Readied rule lists table.now value w
+        → state_of result ≡ next_state w (move w) }
 {
     match table.top() {
         Operation::SumLeft { node, right } => sum_ahead(node, right, value),
@@ -86,8 +87,16 @@ impl Machine {
     #[inline(never)]
     fn walk<W: Environments>(&mut self, nodes: &[Node], store: &mut W, from: Next, granted: u32)
         requires low { self.old.count + granted < 4294967296 }
-        requires goes_on { (root : Root) × (s : Reckoned) × OnTheWay (rule_of nodes.now (W.Store.base store.old)) (W.Store.lists store.old) (room_of (W.Store.whole store.old) (W.Store.cost store.old)) (W.Store.room store.old) root self.old.table from s × NotStuckFor (room_of (W.Store.whole store.old) (W.Store.cost store.old)) granted s }
-        ensures goes { (root : Root) (s : Reckoned) → OnTheWay (rule_of nodes.now (W.Store.base store.old)) (W.Store.lists store.old) (room_of (W.Store.whole store.old) (W.Store.cost store.old)) (W.Store.room store.old) root self.old.table from s → self.old.count ≡ s.count → StandsAt (rule_of nodes.now (W.Store.base store.old)) (W.Store.lists store.new) (room_of (W.Store.whole store.old) (W.Store.cost store.old)) (W.Store.room store.new) root self.new (steps (room_of (W.Store.whole store.old) (W.Store.cost store.old)) granted s) }
+        requires goes_on { (root : Root) × (s : Reckoned) × OnTheWay (rule_of nodes.now (W.Store.base store.old))
+            (W.Store.lists store.old) (room_of (W.Store.whole store.old) (W.Store.cost store.old))
+            (W.Store.room store.old) root self.old.table from s
+            × NotStuckFor (room_of (W.Store.whole store.old) (W.Store.cost store.old)) granted s }
+        ensures goes { (root : Root) (s : Reckoned) → OnTheWay (rule_of nodes.now (W.Store.base store.old))
+            (W.Store.lists store.old) (room_of (W.Store.whole store.old) (W.Store.cost store.old))
+            (W.Store.room store.old) root self.old.table from s → self.old.count ≡ s.count
+            → StandsAt (rule_of nodes.now (W.Store.base store.old)) (W.Store.lists store.new)
+            (room_of (W.Store.whole store.old) (W.Store.cost store.old)) (W.Store.room store.new) root self.new
+            (steps (room_of (W.Store.whole store.old) (W.Store.cost store.old)) granted s) }
         ensures still { granted ≡ 0 → store.new ≡ store.old }
         ensures base { W.Store.base store.new ≡ W.Store.base store.old }
         ensures whole { W.Store.whole store.new ≡ W.Store.whole store.old }
@@ -119,8 +128,14 @@ impl Machine {
 
     /// Begins: at the root of the tree, in the environment of a handle.
     pub fn begin<W: Environments>(&mut self, nodes: &[Node], store: &mut W, environment: u32)
-        requires { (t : Tree) × (readings : List ℤ) × Begins (rule_of nodes.now (W.Store.base store.old)) (W.Store.lists store.old) (W.Store.whole store.old) (W.Store.room store.old) environment t readings × (move (begun readings t).work ≢ stuck) }
-        ensures stands { (t : Tree) (readings : List ℤ) → Begins (rule_of nodes.now (W.Store.base store.old)) (W.Store.lists store.old) (W.Store.whole store.old) (W.Store.room store.old) environment t readings → StandsAt (rule_of nodes.now (W.Store.base store.old)) (W.Store.lists store.old) (room_of (W.Store.whole store.old) (W.Store.cost store.old)) (W.Store.room store.old) (rooted environment readings) self.new (begun readings t) }
+        requires { (t : Tree) × (readings : List ℤ) × Begins (rule_of nodes.now (W.Store.base store.old))
+            (W.Store.lists store.old) (W.Store.whole store.old) (W.Store.room store.old) environment t readings
+            × (move (begun readings t).work ≢ stuck) }
+        ensures stands { (t : Tree) (readings : List ℤ) → Begins (rule_of nodes.now (W.Store.base store.old))
+            (W.Store.lists store.old) (W.Store.whole store.old) (W.Store.room store.old) environment t readings
+            → StandsAt (rule_of nodes.now (W.Store.base store.old)) (W.Store.lists store.old)
+            (room_of (W.Store.whole store.old) (W.Store.cost store.old)) (W.Store.room store.old)
+            (rooted environment readings) self.new (begun readings t) }
         ensures store { store.new ≡ store.old }
     {
         self.table.clear();
@@ -135,8 +150,16 @@ impl Machine {
     /// So many granted steps: exactly as many reductions, or as many as there are before the run ends.
     pub fn grant<W: Environments>(&mut self, nodes: &[Node], store: &mut W, granted: u32)
         requires low { self.old.count + granted < 4294967296 }
-        requires stands { (root : Root) × (s : Reckoned) × StandsAt (rule_of nodes.now (W.Store.base store.old)) (W.Store.lists store.old) (room_of (W.Store.whole store.old) (W.Store.cost store.old)) (W.Store.room store.old) root self.old s × NeverStuck (room_of (W.Store.whole store.old) (W.Store.cost store.old)) s }
-        ensures goes { (root : Root) (s : Reckoned) → StandsAt (rule_of nodes.now (W.Store.base store.old)) (W.Store.lists store.old) (room_of (W.Store.whole store.old) (W.Store.cost store.old)) (W.Store.room store.old) root self.old s → StandsAt (rule_of nodes.now (W.Store.base store.old)) (W.Store.lists store.new) (room_of (W.Store.whole store.old) (W.Store.cost store.old)) (W.Store.room store.new) root self.new (steps (room_of (W.Store.whole store.old) (W.Store.cost store.old)) granted s) }
+        requires stands { (root : Root) × (s : Reckoned) × StandsAt (rule_of nodes.now (W.Store.base store.old))
+            (W.Store.lists store.old) (room_of (W.Store.whole store.old) (W.Store.cost store.old))
+            (W.Store.room store.old) root self.old s
+            × NeverStuck (room_of (W.Store.whole store.old) (W.Store.cost store.old)) s }
+        ensures goes { (root : Root) (s : Reckoned) → StandsAt (rule_of nodes.now (W.Store.base store.old))
+            (W.Store.lists store.old) (room_of (W.Store.whole store.old) (W.Store.cost store.old))
+            (W.Store.room store.old) root self.old s → StandsAt (rule_of nodes.now (W.Store.base store.old))
+            (W.Store.lists store.new) (room_of (W.Store.whole store.old) (W.Store.cost store.old))
+            (W.Store.room store.new) root self.new (steps (room_of (W.Store.whole store.old) (W.Store.cost store.old))
+            granted s) }
         ensures base { W.Store.base store.new ≡ W.Store.base store.old }
         ensures whole { W.Store.whole store.new ≡ W.Store.whole store.old }
         ensures cost { W.Store.cost store.new ≡ W.Store.cost store.old }

@@ -33,7 +33,8 @@ pub length_as_values : (numbers : List ℤ) → length (as_values numbers) ≡ l
 length_as_values [] = refl
 length_as_values (k ∷ numbers) = let e = length_as_values numbers in omega arith
 
-pub cost_below_injective : (rs : List Value) (cost cost' : ℕ → ℕ) → cost_below rs cost ≡ cost_below rs cost' → cost ≡ cost'
+pub cost_below_injective : (rs : List Value) (cost cost' : ℕ → ℕ) → cost_below rs cost ≡ cost_below rs cost'
+    → cost ≡ cost'
 cost_below_injective rs cost cost' e = fun_ext at
   where
     at : (n : ℕ) → cost n ≡ cost' n
@@ -48,22 +49,31 @@ room_behind readings whole cost = ap (λ r. reckoning.behind r (room_of whole co
 
 -- its readings are as many run values
 pub rule_behind : (ns : List Node) (readings : List ℤ) → rule_of ns (as_values readings) ≡ rule_of ns readings
-rule_behind ns readings = ap (λ r. let rule : Rule = record { nodes = ns; readings = r } in rule) (length_as_values readings)
+rule_behind ns readings = ap (λ r. let rule : Rule = record { nodes = ns; readings = r } in rule)
+    (length_as_values readings)
 
-pub readings_stand : (rule : Rule) (lists : Lists Value) (readings : List ℤ) → AllStandFor rule lists (as_values readings) (base readings)
+pub readings_stand : (rule : Rule) (lists : Lists Value) (readings : List ℤ)
+    → AllStandFor rule lists (as_values readings) (base readings)
 readings_stand rule lists [] = tt
 readings_stand rule lists (k ∷ readings) = (refl, readings_stand rule lists readings)
 
 -- a layer that was just cleared, and the table of a rule
-pub cleared_begins : (lists : Lists Value) (whole left : ℕ) (rule : Received) (t : Tree) (readings : List ℤ) → IsTree rule t →
-    Cleared lists (as_values readings) whole left → Begins (rule_of rule.nodes.items (as_values readings)) lists whole left 0 t readings
+pub cleared_begins : (lists : Lists Value) (whole left : ℕ) (rule : Received) (t : Tree) (readings : List ℤ)
+    → IsTree rule t →
+    Cleared lists (as_values readings) whole left → Begins (rule_of rule.nodes.items (as_values readings)) lists whole
+    left 0 t readings
 cleared_begins lists whole left rule t readings is cleared =
     let counted = is.counted in
     record {
       holds = is.holds;
       inside = omega arith;
       as_many = length_as_values readings;
-      environment = (as_values readings, cleared.root, readings_stand (rule_of rule.nodes.items (as_values readings)) lists readings);
+      environment = (
+        as_values readings,
+        cleared.root,
+        readings_stand (rule_of rule.nodes.items (as_values readings))
+            lists readings,
+      );
       alone = λ k other. cleared.alone k (omega arith);
       unspent = cleared.unspent;
     }

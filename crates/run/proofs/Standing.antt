@@ -26,7 +26,8 @@ module _ {S : Type 0} (lists : S → Lists Value) (whole room : S → ℕ) (cost
   -- the machine of a run stands where s is
   abbrev pub Stands : Seen S → Reckoned → Type 0
   Stands run s =
-      StandsAt (rule_of (nodes_of run) (as_values run.readings)) (behind (as_values run.readings) (lists run.store)) (layer_room run) (room run.store)
+      StandsAt (rule_of (nodes_of run) (as_values run.readings)) (behind (as_values run.readings) (lists run.store))
+      (layer_room run) (room run.store)
       (rooted 0 run.readings) run.machine s
 
   stands_at : (run : Seen S) (t : Tree) (g : ℕ) → IsRule run.rule (length run.readings) t →
@@ -36,11 +37,14 @@ module _ {S : Type 0} (lists : S → Lists Value) (whole room : S → ℕ) (cost
         rule = rule;
         laid = refl;
         stands =
-            subst (λ r. StandsAt (rule_of (nodes_of run) run.readings) (behind (as_values run.readings) (lists run.store)) r (room run.store)
+            subst (λ r. StandsAt (rule_of (nodes_of run) run.readings) (behind (as_values run.readings)
+            (lists run.store)) r (room run.store)
             (rooted 0 run.readings) run.machine (reckoned r run.readings t g))
             (room_behind run.readings (whole run.store) (cost run.store))
-            (subst (λ x. StandsAt x (behind (as_values run.readings) (lists run.store)) (layer_room run) (room run.store)
-            (rooted 0 run.readings) run.machine (reckoned (layer_room run) run.readings t g)) (rule_behind (nodes_of run) run.readings) stands);
+            (subst (λ x. StandsAt x (behind (as_values run.readings) (lists run.store)) (layer_room run)
+            (room run.store)
+            (rooted 0 run.readings) run.machine (reckoned (layer_room run) run.readings t g))
+            (rule_behind (nodes_of run) run.readings) stands);
       }
 
   pub at_where_stands : (run : Seen S) (t : Tree) (readings : List ℤ) (g : ℕ) → run.readings ≡ readings →
@@ -53,12 +57,15 @@ module _ {S : Type 0} (lists : S → Lists Value) (whole room : S → ℕ) (cost
       IsAt lists whole room cost run t run.readings g
   at_own run t readings g at = subst (λ rs. IsAt lists whole room cost run t rs g) (sym at.laid) at
 
-  pub stands_where_at : (run : Seen S) (t : Tree) (readings : List ℤ) (g : ℕ) → IsAt lists whole room cost run t readings g →
+  pub stands_where_at : (run : Seen S) (t : Tree) (readings : List ℤ) (g : ℕ)
+      → IsAt lists whole room cost run t readings g →
       Stands run (reckoned (layer_room run) run.readings t g)
   stands_where_at run t readings g at =
       subst (λ x. StandsAt x (behind (as_values run.readings) (lists run.store)) (layer_room run) (room run.store)
-      (rooted 0 run.readings) run.machine (reckoned (layer_room run) run.readings t g)) (sym (rule_behind (nodes_of run) run.readings))
-      (subst (λ r. StandsAt (rule_of (nodes_of run) run.readings) (behind (as_values run.readings) (lists run.store)) r (room run.store)
+      (rooted 0 run.readings) run.machine (reckoned (layer_room run) run.readings t g))
+      (sym (rule_behind (nodes_of run) run.readings))
+      (subst (λ r. StandsAt (rule_of (nodes_of run) run.readings) (behind (as_values run.readings) (lists run.store))
+      r (room run.store)
       (rooted 0 run.readings) run.machine (reckoned r run.readings t g))
       (sym (room_behind run.readings (whole run.store) (cost run.store))) (at_own run t readings g at).stands)
 
@@ -70,7 +77,8 @@ module _ {S : Type 0} (lists : S → Lists Value) (whole room : S → ℕ) (cost
 
   -- a run that was started or rewound
   pub begun_at : (run : Seen S) (t : Tree) (readings : List ℤ) → run.readings ≡ readings → IsTree run.rule t →
-      length readings ≡ run.rule.readings → Stands run (begun run.readings t) → IsAt lists whole room cost run t readings 0
+      length readings ≡ run.rule.readings → Stands run (begun run.readings t)
+      → IsAt lists whole room cost run t readings 0
   begun_at run t readings laid is many stands =
       at_where_stands run t readings 0 laid (is, sym many ∙ ap (λ rs. length rs) (sym laid)) stands
 
@@ -89,7 +97,8 @@ module _ {S : Type 0} (lists : S → Lists Value) (whole room : S → ℕ) (cost
   module _ (old new : Seen S) (n : ℕ) (same_rule : new.rule ≡ old.rule) (same_readings : new.readings ≡ old.readings)
       (same_whole : whole new.store ≡ whole old.store) (same_cost : cost new.store ≡ cost old.store)
       (goes : (s : Reckoned) → Stands old s →
-      StandsAt (rule_of (nodes_of old) (as_values old.readings)) (behind (as_values new.readings) (lists new.store)) (layer_room old) (room new.store)
+      StandsAt (rule_of (nodes_of old) (as_values old.readings)) (behind (as_values new.readings) (lists new.store))
+      (layer_room old) (room new.store)
       (rooted 0 old.readings) new.machine (steps (layer_room old) n s)) where
     same_room : layer_room old ≡ layer_room new
     same_room =
@@ -104,18 +113,24 @@ module _ {S : Type 0} (lists : S → Lists Value) (whole room : S → ℕ) (cost
         let s = reckoned (layer_room old) old.readings t g in
         let there = goes s (stands_where_at old t readings g at) in
         let added : steps (layer_room old) n s ≡ reckoned (layer_room old) old.readings t (g + n) =
-        steps_add_up (layer_room old) (begun old.readings t) n g ∙ ap (λ k. reckoned (layer_room old) old.readings t k) (commutes n g) in
-        let one = subst (λ x. StandsAt (rule_of (nodes_of old) (as_values old.readings)) (behind (as_values new.readings) (lists new.store)) (layer_room old) (room new.store)
+        steps_add_up (layer_room old) (begun old.readings t) n g
+        ∙ ap (λ k. reckoned (layer_room old) old.readings t k) (commutes n g) in
+        let one = subst (λ x. StandsAt (rule_of (nodes_of old) (as_values old.readings))
+        (behind (as_values new.readings) (lists new.store)) (layer_room old) (room new.store)
         (rooted 0 old.readings) new.machine x) added there in
-        let two = subst (λ r. StandsAt (rule_of (nodes_of old) (as_values old.readings)) (behind (as_values new.readings) (lists new.store)) r (room new.store)
+        let two = subst (λ r. StandsAt (rule_of (nodes_of old) (as_values old.readings))
+        (behind (as_values new.readings) (lists new.store)) r (room new.store)
         (rooted 0 old.readings) new.machine (reckoned r old.readings t (g + n))) same_room one in
-        let three = subst (λ rs. StandsAt (rule_of (nodes_of old) (as_values rs)) (behind (as_values new.readings) (lists new.store)) (layer_room new) (room new.store)
+        let three = subst (λ rs. StandsAt (rule_of (nodes_of old) (as_values rs)) (behind (as_values new.readings)
+        (lists new.store)) (layer_room new) (room new.store)
         (rooted 0 rs) new.machine (reckoned (layer_room new) rs t (g + n))) (sym same_readings) two in
-        let four = subst (λ rule. StandsAt (rule_of rule.nodes.items (as_values new.readings)) (behind (as_values new.readings) (lists new.store)) (layer_room new) (room new.store)
+        let four = subst (λ rule. StandsAt (rule_of rule.nodes.items (as_values new.readings))
+        (behind (as_values new.readings) (lists new.store)) (layer_room new) (room new.store)
         (rooted 0 new.readings) new.machine (reckoned (layer_room new) new.readings t (g + n))) (sym same_rule) three in
         let laid : new.readings ≡ readings = same_readings ∙ at.laid in
         let rule : IsRule new.rule (length new.readings) t =
-        subst (λ rs. IsRule new.rule (length rs) t) (sym laid) (subst (λ x. IsRule x (length readings) t) (sym same_rule) at.rule) in
+        subst (λ rs. IsRule new.rule (length rs) t) (sym laid) (subst (λ x. IsRule x (length readings) t)
+        (sym same_rule) at.rule) in
         at_where_stands new t readings (g + n) laid rule four
       where
         commutes : (n g : ℕ) → n + g ≡ g + n

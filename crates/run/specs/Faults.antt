@@ -21,7 +21,8 @@ rewind_answer wanted given = cond (given == wanted) (Ok tt) (Err (WrongCount wan
 
 -- The answer of grant in a state, at a count, for n steps: is the run waiting, then, is n from 1 to what is left?
 abbrev pub grant_answer : State → ℕ → ℕ → Result (Unit {0}) RunFault
-grant_answer waiting count n = cond (nat_le 1 n && nat_le n (most_steps - count)) (Ok tt) (Err (WrongSteps (most_steps - count)))
+grant_answer waiting count n = cond (nat_le 1 n && nat_le n (most_steps - count)) (Ok tt)
+    (Err (WrongSteps (most_steps - count)))
 grant_answer (over answer) count n = Err NotWaiting
 grant_answer (no_store node) count n = Err NotWaiting
 grant_answer (no_stack node) count n = Err NotWaiting

@@ -41,11 +41,13 @@ pub record IsAt {S : Type 0} (lists : S → Lists Value) (whole room : S → ℕ
   pub laid : run.readings ≡ readings
   pub stands :
       (let r = reckoning.behind (length readings) (room_of (whole run.store) (cost run.store)) in
-      StandsAt (rule_of (nodes_of run) readings) (behind (as_values readings) (lists run.store)) r (room run.store) (rooted 0 readings) run.machine
+      StandsAt (rule_of (nodes_of run) readings) (behind (as_values readings) (lists run.store)) r (room run.store)
+      (rooted 0 readings) run.machine
       (reckoned r readings t g))
 
 -- at all times the rule is one tree that has a type, and the run is somewhere on its way
-pub record Keeps {S : Type 0} (lists : S → Lists Value) (whole room : S → ℕ) (cost : S → ℕ → ℕ) (run : Seen S) : Type 0 where
+pub record Keeps {S : Type 0} (lists : S → Lists Value) (whole room : S → ℕ) (cost : S → ℕ → ℕ) (run : Seen S) : Type
+    0 where
   pub tree : Tree
   pub type : Ty
   pub granted : ℕ

@@ -57,7 +57,12 @@ fn begin<S: BareStore + Store<Elem = Value>>(
     machine: &mut Machine,
 )
     requires as_many { length (numbers_of layer.old.readings) ≡ rule.now.readings }
-    ensures begun { (t : Tree) → IsTree rule.now t → StandsAt (rule_of rule.now.nodes.items (values_of layer.new.readings)) (behind (values_of layer.new.readings) (S.Store.lists layer.new.below)) (room_of (S.Store.whole layer.new.below) (cost_below (values_of layer.new.readings) (S.Store.cost layer.new.below))) (S.Store.room layer.new.below) (rooted 0 (numbers_of layer.new.readings)) machine.new (begun (numbers_of layer.new.readings) t) }
+    ensures begun { (t : Tree) → IsTree rule.now t
+        → StandsAt (rule_of rule.now.nodes.items (values_of layer.new.readings))
+        (behind (values_of layer.new.readings) (S.Store.lists layer.new.below))
+        (room_of (S.Store.whole layer.new.below) (cost_below (values_of layer.new.readings)
+        (S.Store.cost layer.new.below))) (S.Store.room layer.new.below) (rooted 0 (numbers_of layer.new.readings))
+        machine.new (begun (numbers_of layer.new.readings) t) }
     ensures readings { numbers_of layer.new.readings ≡ numbers_of layer.old.readings }
     ensures whole { S.Store.whole layer.new.below ≡ S.Store.whole layer.old.below }
     ensures cost { S.Store.cost layer.new.below ≡ S.Store.cost layer.old.below }
@@ -73,7 +78,8 @@ impl<S: BareStore + Store<Elem = Value>> Run<S> {
         ensures rule { result.rule ≡ rule }
         ensures whole { S.Store.whole result.store ≡ S.Store.whole store }
         ensures cost { S.Store.cost result.store ≡ S.Store.cost store }
-        ensures begun { (r : ℕ) (t : Tree) → IsRule rule r t → IsAt S.Store.lists S.Store.whole S.Store.room S.Store.cost result t (replicate r (pos 0)) 0 }
+        ensures begun { (r : ℕ) (t : Tree) → IsRule rule r t → IsAt S.Store.lists S.Store.whole S.Store.room
+            S.Store.cost result t (replicate r (pos 0)) 0 }
     {
         let mut layer = ReadingsLayer::new(store, Readings::zeros(rule.received.readings));
         let mut machine = Machine::new();
@@ -92,7 +98,8 @@ impl<S: BareStore + Store<Elem = Value>> Run<S> {
         ensures rule { self.new.rule ≡ self.old.rule }
         ensures whole { S.Store.whole self.new.store ≡ S.Store.whole self.old.store }
         ensures cost { S.Store.cost self.new.store ≡ S.Store.cost self.old.store }
-        ensures ok { OnOk result ((t : Tree) → IsTree self.old.rule t → IsAt S.Store.lists S.Store.whole S.Store.room S.Store.cost self.new t readings.now 0) }
+        ensures ok { OnOk result ((t : Tree) → IsTree self.old.rule t → IsAt S.Store.lists S.Store.whole S.Store.room
+            S.Store.cost self.new t readings.now 0) }
     {
         let wanted = self.rule.received.readings;
         if readings.len() != wanted {
@@ -113,7 +120,9 @@ impl<S: BareStore + Store<Elem = Value>> Run<S> {
         ensures rule { self.new.rule ≡ self.old.rule }
         ensures whole { S.Store.whole self.new.store ≡ S.Store.whole self.old.store }
         ensures cost { S.Store.cost self.new.store ≡ S.Store.cost self.old.store }
-        ensures ok { OnOk result ((t : Tree) (readings : List ℤ) (g : ℕ) → IsAt S.Store.lists S.Store.whole S.Store.room S.Store.cost self.old t readings g → IsAt S.Store.lists S.Store.whole S.Store.room S.Store.cost self.new t readings (g + steps)) }
+        ensures ok { OnOk result ((t : Tree) (readings : List ℤ) (g : ℕ)
+            → IsAt S.Store.lists S.Store.whole S.Store.room S.Store.cost self.old t readings g
+            → IsAt S.Store.lists S.Store.whole S.Store.room S.Store.cost self.new t readings (g + steps)) }
     {
         let machine::steps::State::Waiting = self.machine.state else {
             return Err(RunFault::NotWaiting);

@@ -22,7 +22,8 @@ use Rattle.trial.specs.declared.fault.TrialFault.TheVariants.{Text, Rule, Run}
 use Rattle.run.specs.declared.report.Report.{Report}
 use Rattle.trial.specs.declared.trying.Written.{Written}
 use Rattle.trial.specs.SettingUp.{Lent, SetUp, concluded}
-use Rattle.trial.specs.Trying.{Asked, asked, Compiles, Accepts, TextTold, RuleTold, RecordLeft, TableLeft, TypesLeft, PlaceLeft}
+use Rattle.trial.specs.Trying.{Asked, asked, Compiles, Accepts, TextTold, RuleTold, RecordLeft, TableLeft, TypesLeft}
+use Rattle.trial.specs.Trying.{PlaceLeft}
 
 -- ── outcomes differ ──
 
@@ -110,7 +111,8 @@ module _ (s : List ℕ) (book : List Name) (before after : Lent) where
   given = asked s book before.out before.first before.second before.types
 
   compiled_once : (x y : List ℕ) → Compiles given x → Compiles given y → x ≡ y
-  compiled_once x y h g = ap (λ o. bytes_of o x) (one_verdict book s (length before.out) (verdict.compiled x) (verdict.compiled y) h g)
+  compiled_once x y h g = ap (λ o. bytes_of o x) (one_verdict book s (length before.out) (verdict.compiled x)
+      (verdict.compiled y) h g)
 
   not_both : (k q : ℕ) (x : List ℕ) → Verdict book s (length before.out) (verdict.refused k q) → Compiles given x → ⊥
   not_both k q x h g =
@@ -133,17 +135,20 @@ module _ (s : List ℕ) (book : List Name) (before after : Lent) where
   refused_rule (Text f) up bytes c = not_both (number f) (place f) bytes up.0 c
   refused_rule (Rule f) up bytes c =
       let same = compiled_once up.0 bytes up.1.verdict c in
-      let numbered = subst (λ k. Judgement up.0 given.first given.second given.types (refused k (rule_fault.place_of f)))
+      let numbered = subst (λ k. Judgement up.0 given.first given.second given.types
+      (refused k (rule_fault.place_of f)))
       (rule_number f) up.2.0 in
       let placed = subst (λ q. Judgement up.0 given.first given.second given.types (refused (number_of (Rule f)) q))
       (rule_place f) numbered in
-      subst (λ x. Judgement x given.first given.second given.types (refused (number_of (Rule f)) (place_of (Rule f)))) same placed
+      subst (λ x. Judgement x given.first given.second given.types (refused (number_of (Rule f)) (place_of (Rule f))))
+      same placed
   refused_rule (Run f) up bytes c = absurd up
 
   pub refused_out : (f : TrialFault) → SetUp s book before after (Err f) → RecordLeft given before.out after.out (Err f)
   refused_out (Text f) up = ap (λ m. m.out) up.1
   refused_out (Rule f) up =
-      λ bytes c. subst (λ x. after.out ≡ x ++ drop (length x) before.out) (compiled_once up.0 bytes up.1.verdict c) up.1.stands
+      λ bytes c. subst (λ x. after.out ≡ x ++ drop (length x) before.out) (compiled_once up.0 bytes up.1.verdict c)
+      up.1.stands
   refused_out (Run f) up = absurd up
 
   pub refused_first : (f : TrialFault) → SetUp s book before after (Err f) →
@@ -157,7 +162,8 @@ module _ (s : List ℕ) (book : List Name) (before after : Lent) where
       TableLeft given before.second after.second (Err f)
   refused_second (Text f) up = ap (λ m. m.second) up.1
   refused_second (Rule f) up =
-      λ bytes c. subst (λ x. Wiped x (Err f) before.second after.second) (compiled_once up.0 bytes up.1.verdict c) up.2.4
+      λ bytes c. subst (λ x. Wiped x (Err f) before.second after.second) (compiled_once up.0 bytes up.1.verdict c)
+      up.2.4
   refused_second (Run f) up = absurd up
 
   -- ── compiled and accepted ──
@@ -196,9 +202,11 @@ module _ (s : List ℕ) (book : List Name) (before after : Lent) where
         subst (λ u. IsRule after.place r u) (ap (λ o. tree_of o t) e)
         (subst (λ q. IsRule after.place q up.2.1) (ap (λ o. readings_of o r) e) up.2.4)
 
-    judged_here : (bytes : List ℕ) → Compiles given bytes → Judgement bytes given.first given.second given.types rule_set
+    judged_here : (bytes : List ℕ) → Compiles given bytes → Judgement bytes given.first given.second given.types
+        rule_set
     judged_here bytes c =
-        subst (λ x. Judgement x given.first given.second given.types rule_set) (compiled_once up.0 bytes up.1.verdict c) up.2.3
+        subst (λ x. Judgement x given.first given.second given.types rule_set)
+        (compiled_once up.0 bytes up.1.verdict c) up.2.3
 
     pub text_told : (answer : Result Report TrialFault) → RunOnly answer → TextTold given (concluded written answer)
     text_told (Ok report) only = (up.0, up.1.verdict, up.3)

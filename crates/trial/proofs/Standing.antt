@@ -1,5 +1,6 @@
 -- Where the run of a trial stands.
-use Rattle.std.proofs.Common.{◌≡◌, ℕ, ◌+◌, ℤ, List, length, Ok, Err, Result, sym, ap, ◌∙◌, subst, true≢false, zero-add, IfOk}
+use Rattle.std.proofs.Common.{◌≡◌, ℕ, ◌+◌, ℤ, List, length, Ok, Err, Result, sym, ap, ◌∙◌, subst, true≢false}
+use Rattle.std.proofs.Common.{zero-add, IfOk}
 use Rattle.syntax.specs.Tree.{Tree}
 use Rattle.store.specs.Lists.{Lists}
 use Rattle.values.specs.declared.Value.{Value}
@@ -21,13 +22,15 @@ use Rattle.trial.specs.Trying.{StoreKept}
 use Rattle.trial.proofs.Setting.{RunOnly}
 
 -- whatever the calls of a run answer, the result of a trial is none of text or rule
-pub run_only : {A : Type 0} (answer : Result (Unit {0}) RunFault) (result : Result A TrialFault) → RunAnswers answer result → RunOnly result
+pub run_only : {A : Type 0} (answer : Result (Unit {0}) RunFault) (result : Result A TrialFault)
+    → RunAnswers answer result → RunOnly result
 run_only (Ok u) (Ok x) h = tt
 run_only (Ok u) (Err f) h = absurd (true≢false (sym h))
 run_only (Err f) result h = subst (λ r. RunOnly r) (sym h) tt
 
 -- what the run answers and tells is what the trial does
-pub answers_concluded : (written : Written) (a : Result (Unit {0}) RunFault) (answer : Result Report TrialFault) → RunAnswers a answer →
+pub answers_concluded : (written : Written) (a : Result (Unit {0}) RunFault) (answer : Result Report TrialFault)
+    → RunAnswers a answer →
     RunAnswers a (concluded written answer)
 answers_concluded written (Ok u) (Ok report) h = h
 answers_concluded written (Ok u) (Err f) h = h
@@ -38,7 +41,8 @@ pub tells_concluded : (written : Written) (s : Reckoned) (answer : Result Report
 tells_concluded written s (Ok report) h = h
 tells_concluded written s (Err f) h = h
 
-pub store_run_in : {S : Type 0} (written : Written) (before after : S) (answer : Result Report TrialFault) → RunOnly answer →
+pub store_run_in : {S : Type 0} (written : Written) (before after : S) (answer : Result Report TrialFault)
+    → RunOnly answer →
     StoreKept before after (concluded written answer)
 store_run_in written before after (Ok report) only = tt
 store_run_in written before after (Err (Text f)) only = absurd only
@@ -59,7 +63,8 @@ module _ {S : Type 0} (lists : S → Lists Value) (whole room : S → ℕ) (cost
   begins_at_0 run t readings at = at.stands.counted
 
   -- a run that was rewound, and granted what it waited for, is where its course ends
-  pub goes_its_course : (old mid new : Seen S) (t : Tree) (readings : List ℤ) (n : ℕ) (answer : Result (Unit {0}) RunFault) →
+  pub goes_its_course : (old mid new : Seen S) (t : Tree) (readings : List ℤ) (n : ℕ)
+      (answer : Result (Unit {0}) RunFault) →
       whole mid.store ≡ whole old.store → cost mid.store ≡ cost old.store →
       rewind_answer old.rule.readings (length readings) ≡ Ok tt → IsAt lists whole room cost mid t readings 0 →
       answer ≡ one_grant (state_of (reported mid).state) (reported mid).count n →
@@ -74,7 +79,8 @@ module _ {S : Type 0} (lists : S → Lists Value) (whole room : S → ℕ) (cost
       let in_state : state_of (reported mid).state ≡ first =
       begins mid t readings at ∙ ap (λ r. state (run_at r readings t 0)) same_room in
       let due : answer ≡ grant_of (room_here old) readings t n =
-      replied ∙ ap (λ s. one_grant s (reported mid).count n) in_state ∙ ap (λ k. one_grant first k n) (begins_at_0 mid t readings at) in
+      replied ∙ ap (λ s. one_grant s (reported mid).count n) in_state ∙ ap (λ k. one_grant first k n)
+      (begins_at_0 mid t readings at) in
       let granted = steps_added first (grant_of (room_here old) readings t n) n in
       let added : 0 + steps_added (state_of (reported mid).state) answer n ≡ granted =
       zero-add _ ∙ ap (λ s. steps_added s answer n) in_state ∙ ap (λ a. steps_added first a n) due in

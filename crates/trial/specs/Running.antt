@@ -58,7 +58,8 @@ abbrev pub course : Result (Unit {0}) RunFault → ℕ → List ℤ → ℕ → 
 course (Ok u) r readings g = record { readings = readings; granted = g }
 course (Err f) r readings g = record { readings = replicate r (pos 0); granted = 0 }
 
--- those it was given, with the steps if it waited for them; where it refused the readings, those it was started with, all 0
+-- those it was given, with the steps if it waited for them; where it refused the readings, those it was started with,
+-- all 0
 abbrev pub run_course : Room → ℕ → Tree → List ℤ → ℕ → Course
 run_course room r t readings n =
     course (rewind_answer r (length readings)) r readings
@@ -80,7 +81,8 @@ pub record Tells (report : Report) (s : Reckoned) : Type 0 where
 
 -- The free room is the whole less the costs of the environments made. Each of these is the list of a handle of its own,
 -- and no other handle but 0, the readings, has a list.
-pub record Leaves (room : Room) (ns : List Node) (readings : List ℤ) (s : Reckoned) (left : ℕ) (lists : Lists Value) : Type 0 where
+pub record Leaves (room : Room) (ns : List Node) (readings : List ℤ) (s : Reckoned) (left : ℕ) (lists : Lists Value) :
+    Type 0 where
   pub left_free : left ≡ free (reckoning.behind (length readings) room) s.made
   pub lists_made : Owned (rule_of ns readings) (behind (as_values readings) lists) (rooted 0 readings) s.made
 

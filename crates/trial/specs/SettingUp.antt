@@ -1,4 +1,5 @@
--- What compile and accept come to, one after the other. It serves functions inside; what a trial promises does not mention it.
+-- What compile and accept come to, one after the other. It serves functions inside; what a trial promises does not
+-- mention it.
 use Rattle.std.specs.Prelude.{◌≡◌, ℕ, List, ◌++◌, length, drop, Ok, Err, Result}
 use Rattle.grammar.specs.Token.{Name}
 use Rattle.grammar.specs.Verdict.{Verdict, compiled, refused}
@@ -45,7 +46,8 @@ AcceptedFrom bytes before after (Ok n) =
     (after.first ≡ cleared (worked t) before.first) ×
     (after.second ≡ cleared (worked t) before.second)
 AcceptedFrom bytes before after (Err f) =
-    Judgement bytes (length before.first) (length before.second) (length before.types) (rule.refused (number_of f) (place_of f)) ×
+    Judgement bytes (length before.first) (length before.second) (length before.types)
+    (rule.refused (number_of f) (place_of f)) ×
     (after.place ≡ before.place) ×
     (after.types ≡ before.types) ×
     Wiped bytes (Err f) before.first after.first ×

@@ -23,7 +23,15 @@ pub record Asked : Type 0 where
 
 abbrev pub asked : List ℕ → List Name → List ℕ → List ℕ → List ℕ → List ℕ → Asked
 asked text names out first second types =
-    record { text = text; names = names; out = length out; first = length first; second = length second; types = length types }
+    record {
+      text = text;
+      names = names;
+      out = length out;
+      first = length first;
+      second = length second;
+      types =
+          length types;
+    }
 
 -- the text compiles to this record
 abbrev pub Compiles : Asked → List ℕ → Type 0
@@ -59,8 +67,10 @@ RuleTold a bytes (Ok done) =
 -- The buffer for the record: as it was where the text is refused, else with the record at its front.
 abbrev pub RecordLeft : Asked → List ℕ → List ℕ → Result Success TrialFault → Type 0
 RecordLeft a before after (Err (Text f)) = after ≡ before
-RecordLeft a before after (Err (Rule f)) = (bytes : List ℕ) → Compiles a bytes → after ≡ bytes ++ drop (length bytes) before
-RecordLeft a before after (Err (Run f)) = (bytes : List ℕ) → Compiles a bytes → after ≡ bytes ++ drop (length bytes) before
+RecordLeft a before after (Err (Rule f)) = (bytes : List ℕ) → Compiles a bytes
+    → after ≡ bytes ++ drop (length bytes) before
+RecordLeft a before after (Err (Run f)) = (bytes : List ℕ) → Compiles a bytes
+    → after ≡ bytes ++ drop (length bytes) before
 RecordLeft a before after (Ok done) = (bytes : List ℕ) → Compiles a bytes → after ≡ bytes ++ drop (length bytes) before
 
 -- A work table: as it was where the text is refused, else as accept leaves it.

@@ -63,7 +63,8 @@ fn set_up(
     types: &mut [u16],
     place: &mut Rule,
 ) -> Result<Written, TrialFault>
-    ensures { SetUp text.now (names book.now) (lent out.old first.old second.old types.old place.old) (lent out.new first.new second.new types.new place.new) result }
+    ensures { SetUp text.now (names book.now) (lent out.old first.old second.old types.old place.old)
+        (lent out.new first.new second.new types.new place.new) result }
 {
     let bytes = compile(text, book, out)?;
     let entries = accept(&out[..bytes], first, second, types, place)?;
@@ -79,7 +80,9 @@ fn grant_where_it_waits<S: BareStore + Store<Elem = Value>>(
     ensures rule { run.new.rule ≡ run.old.rule }
     ensures whole { S.Store.whole run.new.store ≡ S.Store.whole run.old.store }
     ensures cost { S.Store.cost run.new.store ≡ S.Store.cost run.old.store }
-    ensures stands { (t : Tree) (readings : List ℤ) (g : ℕ) → IsAt S.Store.lists S.Store.whole S.Store.room S.Store.cost run.old t readings g → IsAt S.Store.lists S.Store.whole S.Store.room S.Store.cost run.new t readings (g + steps_added (state_of (reported run.old).state) result steps) }
+    ensures stands { (t : Tree) (readings : List ℤ) (g : ℕ) → IsAt S.Store.lists S.Store.whole S.Store.room
+        S.Store.cost run.old t readings g → IsAt S.Store.lists S.Store.whole S.Store.room S.Store.cost run.new t
+        readings (g + steps_added (state_of (reported run.old).state) result steps) }
 {
     let State::Waiting = run.ask().state else {
         return Ok(());
@@ -96,8 +99,15 @@ fn attempt<S: BareStore + Store<Elem = Value>>(
     ensures rule { run.new.rule ≡ run.old.rule }
     ensures whole { S.Store.whole run.new.store ≡ S.Store.whole run.old.store }
     ensures cost { S.Store.cost run.new.store ≡ S.Store.cost run.old.store }
-    ensures answer { (t : Tree) → IsTree run.old.rule t → RunAnswers (run_answer (room_of (S.Store.whole run.old.store) (S.Store.cost run.old.store)) run.old.rule.readings t readings.now steps) result }
-    ensures stands { (t : Tree) → IsAt S.Store.lists S.Store.whole S.Store.room S.Store.cost run.old t (replicate run.old.rule.readings (pos 0)) 0 → IsAt S.Store.lists S.Store.whole S.Store.room S.Store.cost run.new t (run_course (room_of (S.Store.whole run.old.store) (S.Store.cost run.old.store)) run.old.rule.readings t readings.now steps).readings (run_course (room_of (S.Store.whole run.old.store) (S.Store.cost run.old.store)) run.old.rule.readings t readings.now steps).granted }
+    ensures answer { (t : Tree) → IsTree run.old.rule t
+        → RunAnswers (run_answer (room_of (S.Store.whole run.old.store) (S.Store.cost run.old.store))
+        run.old.rule.readings t readings.now steps) result }
+    ensures stands { (t : Tree) → IsAt S.Store.lists S.Store.whole S.Store.room S.Store.cost run.old t
+        (replicate run.old.rule.readings (pos 0)) 0 → IsAt S.Store.lists S.Store.whole S.Store.room S.Store.cost
+        run.new t (run_course (room_of (S.Store.whole run.old.store) (S.Store.cost run.old.store))
+        run.old.rule.readings t readings.now steps).readings
+        (run_course (room_of (S.Store.whole run.old.store) (S.Store.cost run.old.store)) run.old.rule.readings t
+        readings.now steps).granted }
     ensures report { IfOk result (λ report. report ≡ reported run.new) }
 {
     run.rewind(readings)?;
@@ -115,9 +125,15 @@ fn run_through<S: BareStore + Store<Elem = Value>>(
     ensures rule { result.rule ≡ rule }
     ensures whole { S.Store.whole result.store ≡ S.Store.whole store }
     ensures cost { S.Store.cost result.store ≡ S.Store.cost store }
-    ensures answer { (r : ℕ) (t : Tree) → IsRule rule r t → RunAnswers (run_answer (room_of (S.Store.whole store) (S.Store.cost store)) r t readings.now steps) result.report }
-    ensures report { (r : ℕ) (t : Tree) → IsRule rule r t → IfOk result.report (λ report. Tells report (run_end (room_of (S.Store.whole store) (S.Store.cost store)) r t readings.now steps)) }
-    ensures leaves { (r : ℕ) (t : Tree) → IsRule rule r t → RunLeaves (room_of (S.Store.whole store) (S.Store.cost store)) r t rule.nodes.items readings.now steps (S.Store.room result.store) (S.Store.lists result.store) }
+    ensures answer { (r : ℕ) (t : Tree) → IsRule rule r t
+        → RunAnswers (run_answer (room_of (S.Store.whole store) (S.Store.cost store)) r t readings.now steps)
+        result.report }
+    ensures report { (r : ℕ) (t : Tree) → IsRule rule r t
+        → IfOk result.report (λ report. Tells report (run_end (room_of (S.Store.whole store) (S.Store.cost store)) r t
+        readings.now steps)) }
+    ensures leaves { (r : ℕ) (t : Tree) → IsRule rule r t
+        → RunLeaves (room_of (S.Store.whole store) (S.Store.cost store)) r t rule.nodes.items readings.now steps
+        (S.Store.room result.store) (S.Store.lists result.store) }
 {
     let mut run = Run::start(rule, store);
     let report = attempt(&mut run, readings, steps);
@@ -161,22 +177,31 @@ pub fn trial<S: BareStore + Store<Elem = Value>>(
     // the text is refused so, or compiled
     ensures text { TextTold (asked text.now (names book.now) out.old first.old second.old types.old) result.result }
     // its record is refused so, or accepted
-    ensures rule { (bytes : List ℕ) → Compiles (asked text.now (names book.now) out.old first.old second.old types.old) bytes →
+    ensures rule { (bytes : List ℕ) → Compiles (asked text.now (names book.now) out.old first.old second.old
+        types.old) bytes →
         RuleTold (asked text.now (names book.now) out.old first.old second.old types.old) bytes result.result }
     // the readings are refused, or the steps where the run waits for them, or nothing is
-    ensures run { (r : ℕ) (t : Tree) (w : List ℕ) → Accepts (asked text.now (names book.now) out.old first.old second.old types.old) r t w →
+    ensures run { (r : ℕ) (t : Tree) (w : List ℕ)
+        → Accepts (asked text.now (names book.now) out.old first.old second.old types.old) r t w →
         RunAnswers (run_answer (room_of (S.Store.whole store) (S.Store.cost store)) r t readings.now steps) result.result }
     // the report is what the run tells behind its one grant
-    ensures report { (r : ℕ) (t : Tree) (w : List ℕ) → Accepts (asked text.now (names book.now) out.old first.old second.old types.old) r t w →
+    ensures report { (r : ℕ) (t : Tree) (w : List ℕ)
+        → Accepts (asked text.now (names book.now) out.old first.old second.old types.old) r t w →
         IfOk result.result (λ done. Tells done.report (run_end (room_of (S.Store.whole store) (S.Store.cost store)) r t readings.now steps)) }
-    ensures out_left { RecordLeft (asked text.now (names book.now) out.old first.old second.old types.old) out.old out.new result.result }
-    ensures first_left { TableLeft (asked text.now (names book.now) out.old first.old second.old types.old) first.old first.new result.result }
-    ensures second_left { TableLeft (asked text.now (names book.now) out.old first.old second.old types.old) second.old second.new result.result }
-    ensures types_left { TypesLeft (asked text.now (names book.now) out.old first.old second.old types.old) types.old types.new result.result }
-    ensures place_left { PlaceLeft (asked text.now (names book.now) out.old first.old second.old types.old) place result.place result.result }
+    ensures out_left { RecordLeft (asked text.now (names book.now) out.old first.old second.old types.old) out.old
+        out.new result.result }
+    ensures first_left { TableLeft (asked text.now (names book.now) out.old first.old second.old types.old) first.old
+        first.new result.result }
+    ensures second_left { TableLeft (asked text.now (names book.now) out.old first.old second.old types.old)
+        second.old second.new result.result }
+    ensures types_left { TypesLeft (asked text.now (names book.now) out.old first.old second.old types.old) types.old
+        types.new result.result }
+    ensures place_left { PlaceLeft (asked text.now (names book.now) out.old first.old second.old types.old) place
+        result.place result.result }
     // the store: as it was given where no run was started, else as the run left it
     ensures store_kept { StoreKept store result.store result.result }
-    ensures store_left { (r : ℕ) (t : Tree) (w : List ℕ) → Accepts (asked text.now (names book.now) out.old first.old second.old types.old) r t w →
+    ensures store_left { (r : ℕ) (t : Tree) (w : List ℕ)
+        → Accepts (asked text.now (names book.now) out.old first.old second.old types.old) r t w →
         RunLeaves (room_of (S.Store.whole store) (S.Store.cost store)) r t result.place.nodes.items readings.now steps
         (S.Store.room result.store) (S.Store.lists result.store) }
     ensures whole { S.Store.whole result.store ≡ S.Store.whole store }

@@ -51,15 +51,18 @@ loop-turn-preserved g c =
           let first = room_of (g.S.Store.whole c.args.store) (g.S.Store.cost c.args.store) in
           let same : length now.readings ≡ r = sym old.0.rule.1 ∙ ap (λ x. x.readings) k.rule ∙ h.1 in
           let room : here ≡ first =
-          ap (λ w. room_of w (g.S.Store.cost c.loop-turn.run.store)) k.whole ∙ ap (λ f. room_of (g.S.Store.whole c.args.store) f) k.cost in
+          ap (λ w. room_of w (g.S.Store.cost c.loop-turn.run.store)) k.whole
+          ∙ ap (λ f. room_of (g.S.Store.whole c.args.store) f) k.cost in
           let turn' = turn_at turns i c.reply_to-turn.result in
           let due : IsReply r (reckoned (behind r first) now.readings t now.granted) turn'.call turn'.reply =
           subst (λ x. IsReply r (reckoned (behind r x) now.readings t now.granted) turn'.call turn'.reply) room
-          (subst (λ n. IsReply n (reckoned (behind n here) now.readings t now.granted) turn'.call turn'.reply) same new.1) in
+          (subst (λ n. IsReply n (reckoned (behind n here) now.readings t now.granted) turn'.call turn'.reply) same
+          new.1) in
           let front = take_more_set turns i turn' inside in
           let later : since (started r) (take (i + 1) (set turns i turn')) ≡ after_call now turn'.call turn'.reply =
           ap (since (started r)) front ∙ since-more (started r) (take i turns) turn' in (
-            subst (λ x. IsAt g.S.Store.lists g.S.Store.whole g.S.Store.room g.S.Store.cost c.reply_to-turn.new.run t x.readings x.granted) (sym later) new.0,
+            subst (λ x. IsAt g.S.Store.lists g.S.Store.whole g.S.Store.room g.S.Store.cost c.reply_to-turn.new.run t
+                x.readings x.granted) (sym later) new.0,
             subst (λ ts. Replied (behind r first) r t (started r) ts) (sym front)
                 (replied-more (behind r first) r t (started r) (take i turns) turn' old.1 due),
           );
@@ -75,13 +78,15 @@ returns-clause-law g c r t is =
     let whole_list : take c.loop-turn.turn-index turns ≡ turns = take_all c.loop-turn.turn-index turns (omega arith) in
     let first = room_of (g.S.Store.whole c.args.store) (g.S.Store.cost c.args.store) in
     let here = room_of (g.S.Store.whole run.store) (g.S.Store.cost run.store) in
-    let room : here ≡ first = ap (λ w. room_of w (g.S.Store.cost run.store)) k.whole ∙ ap (λ f. room_of (g.S.Store.whole c.args.store) f) k.cost in
+    let room : here ≡ first = ap (λ w. room_of w (g.S.Store.cost run.store)) k.whole
+    ∙ ap (λ f. room_of (g.S.Store.whole c.args.store) f) k.cost in
     let at = subst (λ ts. IsAt g.S.Store.lists g.S.Store.whole g.S.Store.room g.S.Store.cost run t
     (since (started r) ts).readings (since (started r) ts).granted) whole_list (k.at r t is).0 in
     let replies = subst (λ ts. Replied (behind r first) r t (started r) ts) whole_list (k.at r t is).1 in
     let same = since_length (behind r first) r t (started r) turns (length-replicate r _) replies in
     let ending = ended g.S.Store.lists g.S.Store.whole g.S.Store.room g.S.Store.cost run r t turns at same in
-    let here_play = played here r t run.rule.nodes.items turns (reported run) (g.S.Store.room run.store) (g.S.Store.lists run.store) in
+    let here_play = played here r t run.rule.nodes.items turns (reported run) (g.S.Store.room run.store)
+    (g.S.Store.lists run.store) in
     let holds = held here_play (record {
       typed = c.start-run.ensures.typed r t is;
       replies = subst (λ x. Replied (behind r x) r t (started r) turns) (sym room) replies;
@@ -89,8 +94,12 @@ returns-clause-law g c r t is =
     }) in
     let moved : here_play ≡ played first r t c.args.rule.nodes.items turns c.ask-report.result
     (g.S.Store.room c.close-rule.result.store) (g.S.Store.lists c.close-rule.result.store) =
-    ap (λ x. played x r t run.rule.nodes.items turns (reported run) (g.S.Store.room run.store) (g.S.Store.lists run.store)) room ∙
-    ap (λ x. played first r t x.nodes.items turns (reported run) (g.S.Store.room run.store) (g.S.Store.lists run.store)) k.rule ∙
-    ap (λ x. played first r t c.args.rule.nodes.items turns x (g.S.Store.room run.store) (g.S.Store.lists run.store)) (sym c.ask-report.ensures) ∙
-    ap (λ x. played first r t c.args.rule.nodes.items turns c.ask-report.result (g.S.Store.room x) (g.S.Store.lists x)) (sym c.close-rule.ensures.store) in
+    ap (λ x. played x r t run.rule.nodes.items turns (reported run) (g.S.Store.room run.store)
+    (g.S.Store.lists run.store)) room ∙
+    ap (λ x. played first r t x.nodes.items turns (reported run) (g.S.Store.room run.store)
+    (g.S.Store.lists run.store)) k.rule ∙
+    ap (λ x. played first r t c.args.rule.nodes.items turns x (g.S.Store.room run.store) (g.S.Store.lists run.store))
+    (sym c.ask-report.ensures) ∙
+    ap (λ x. played first r t c.args.rule.nodes.items turns c.ask-report.result (g.S.Store.room x)
+    (g.S.Store.lists x)) (sym c.close-rule.ensures.store) in
     subst (λ p. HoldsOf p) moved holds

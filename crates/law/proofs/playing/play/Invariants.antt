@@ -18,5 +18,6 @@ invariant-loop-turn g l = record {
   at : (r : ℕ) (t : Tree) → IsRule l.fn.rule r t →
       IsAt g.S.Store.lists g.S.Store.whole g.S.Store.room g.S.Store.cost l.run t
       (since (started r) (take l.turn-index l.turns)).readings (since (started r) (take l.turn-index l.turns)).granted ×
-      Replied (behind r (room_of (g.S.Store.whole l.fn.store) (g.S.Store.cost l.fn.store))) r t (started r) (take l.turn-index l.turns);
+      Replied (behind r (room_of (g.S.Store.whole l.fn.store) (g.S.Store.cost l.fn.store))) r t (started r)
+      (take l.turn-index l.turns);
 }

@@ -31,12 +31,14 @@ returns-in-Ok c rule r lists free table w t =
     let fits_j : SFits w32 j = search rules in
     let fits_k : SFits w32 k = search rules in
     let same_sum : sum_of (to_z w32 (of_z w32 i)) (to_z w32 (of_z w32 j)) ≡ sum_of i j =
-    ap (λ x. sum_of x (to_z w32 (of_z w32 j))) (to_z-of_z w32 i fits_i) ∙ ap (λ y. sum_of i y) (to_z-of_z w32 j fits_j) in
+    ap (λ x. sum_of x (to_z w32 (of_z w32 j))) (to_z-of_z w32 i fits_i)
+    ∙ ap (λ y. sum_of i y) (to_z-of_z w32 j fits_j) in
     subst (λ x. Reduces rule r lists lists free free table (reduced.Found (Number x)) w) (sym (to_z-of_z w32 k fits_k))
     (sum_found rule lists r free table c.args.node i j k w
     (told_within (sum_of i j) k (c.in-Ok.ensures ∙ ap as_result same_sum))
     (subst (λ x. InHand rule lists table.ops table.depth (SumLeft c.args.node (Number j)) x w) c.in-Number.is
-    (subst (λ y. InHand rule lists table.ops table.depth (SumLeft c.args.node y) c.args.value w) c.in-Number-right.is t)))
+    (subst (λ y. InHand rule lists table.ops table.depth (SumLeft c.args.node y) c.args.value w) c.in-Number-right.is
+    t)))
 
 pub returns-in-Err : goal.returns-in-Err
 returns-in-Err c rule r lists free table w t =
@@ -45,8 +47,10 @@ returns-in-Err c rule r lists free table w t =
     let fits_i : SFits w32 i = search rules in
     let fits_j : SFits w32 j = search rules in
     let same_sum : sum_of (to_z w32 (of_z w32 i)) (to_z w32 (of_z w32 j)) ≡ sum_of i j =
-    ap (λ x. sum_of x (to_z w32 (of_z w32 j))) (to_z-of_z w32 i fits_i) ∙ ap (λ y. sum_of i y) (to_z-of_z w32 j fits_j) in
+    ap (λ x. sum_of x (to_z w32 (of_z w32 j))) (to_z-of_z w32 i fits_i)
+    ∙ ap (λ y. sum_of i y) (to_z-of_z w32 j fits_j) in
     sum_leaves rule lists r free table c.args.node c.in-Err.beyond i j w
     (told_out (sum_of i j) c.in-Err.beyond (c.in-Err.ensures ∙ ap as_result same_sum))
     (subst (λ x. InHand rule lists table.ops table.depth (SumLeft c.args.node (Number j)) x w) c.in-Number.is
-    (subst (λ y. InHand rule lists table.ops table.depth (SumLeft c.args.node y) c.args.value w) c.in-Number-right.is t))
+    (subst (λ y. InHand rule lists table.ops table.depth (SumLeft c.args.node y) c.args.value w) c.in-Number-right.is
+    t))

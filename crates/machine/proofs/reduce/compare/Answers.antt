@@ -26,8 +26,10 @@ returns c rule r lists free table w t =
     let j = c.in-Number-right.right in
     let fits_i : SFits w32 i = search rules in
     let fits_j : SFits w32 j = search rules in
-    let e : le_z (to_z w32 (of_z w32 i)) (to_z w32 (of_z w32 j)) ≡ le_z i j = ap (λ x. le_z x (to_z w32 (of_z w32 j))) (to_z-of_z w32 i fits_i) ∙ ap (λ x. le_z i x) (to_z-of_z w32 j fits_j) in
+    let e : le_z (to_z w32 (of_z w32 i)) (to_z w32 (of_z w32 j)) ≡ le_z i j = ap (λ x. le_z x (to_z w32 (of_z w32 j)))
+    (to_z-of_z w32 i fits_i) ∙ ap (λ x. le_z i x) (to_z-of_z w32 j fits_j) in
     subst (λ b. Reduces rule r lists lists free free table (reduced.Found (Truth b)) w) (sym e)
     (compared rule lists r free table c.args.node i j w
     (subst (λ x. InHand rule lists table.ops table.depth (CompareLeft c.args.node (Number j)) x w) c.in-Number.is
-    (subst (λ y. InHand rule lists table.ops table.depth (CompareLeft c.args.node y) c.args.value w) c.in-Number-right.is t)))
+    (subst (λ y. InHand rule lists table.ops table.depth (CompareLeft c.args.node y) c.args.value w)
+    c.in-Number-right.is t)))

@@ -8,19 +8,27 @@ use Rattle.machine.proofs.seek.enter.Goals as goal
 use Rattle.machine.specs.Places.{rule_of}
 
 pub node-requires : goal.node-requires
-node-requires g c = let m = c.requires.meets.1 in at_inside (rule_of c.args.nodes.now (g.W.Store.base c.args.store.now)) _ c.args.place m.term m.at
+node-requires g c = let m = c.requires.meets.1 in
+    at_inside (rule_of c.args.nodes.now (g.W.Store.base c.args.store.now)) _ c.args.place m.term m.at
 
 pub leaf-requires : goal.leaf-requires
 leaf-requires g c =
     let m = c.requires.meets in
-    met_goes_on (rule_of c.args.nodes.now (g.W.Store.base c.args.store.now)) (g.W.Store.lists c.args.store.now) c.args.table.now c.args.place c.args.environment m.0 m.1 m.2
+    met_goes_on (rule_of c.args.nodes.now (g.W.Store.base c.args.store.now)) (g.W.Store.lists c.args.store.now)
+    c.args.table.now c.args.place c.args.environment m.0 m.1 m.2
 
 pub unreachable-requires : goal.unreachable-requires
-unreachable-requires g c = no_operation c.node.result c.in-Number.is (subst IsOperation (sym c.node.ensures) (c.in-None.ensures.operation refl))
+unreachable-requires g c = no_operation c.node.result c.in-Number.is (subst IsOperation (sym c.node.ensures)
+    (c.in-None.ensures.operation refl))
 
 pub returns-in-Some-clause-goes : goal.returns-in-Some-clause-goes
-returns-in-Some-clause-goes g c w m =
-    (λ h. refl, refl, found (rule_of c.args.nodes.now (g.W.Store.base c.args.store.now)) (g.W.Store.lists c.args.store.now) c.args.table.now c.args.place c.args.environment w c.in-Some.value m (c.in-Some.ensures.value m.term m.env m.at m.environment))
+returns-in-Some-clause-goes g c w m = (
+  λ h. refl,
+  refl,
+  found (rule_of c.args.nodes.now (g.W.Store.base c.args.store.now))
+      (g.W.Store.lists c.args.store.now) c.args.table.now c.args.place c.args.environment w c.in-Some.value m
+      (c.in-Some.ensures.value m.term m.env m.at m.environment),
+)
 
 pub returns-in-Some-clause-lessens : goal.returns-in-Some-clause-lessens
 returns-in-Some-clause-lessens g c =
@@ -35,8 +43,11 @@ returns-in_default g c =
       goes = λ w m. (
         λ h. refl,
         refl,
-        over (rule_of c.args.nodes.now (g.W.Store.base c.args.store.now)) (g.W.Store.lists c.args.store.now) c.args.table.now c.args.place c.args.environment w m c.if-table-eq-MOST_OPEN.true c.node.result c.node.ensures
-            (is_operation c.node.result c.in_default.not-Number c.in_default.not-Truth c.in_default.not-Variable c.in_default.not-Reading c.in_default.not-Function),
+        over (rule_of c.args.nodes.now (g.W.Store.base c.args.store.now)) (g.W.Store.lists c.args.store.now)
+            c.args.table.now c.args.place c.args.environment w m c.if-table-eq-MOST_OPEN.true c.node.result
+            c.node.ensures
+            (is_operation c.node.result c.in_default.not-Number c.in_default.not-Truth c.in_default.not-Variable
+            c.in_default.not-Reading c.in_default.not-Function),
       );
       lessens = tt;
       still = λ e. refl;
@@ -48,4 +59,5 @@ returns-in_default g c =
 pub enter_operation-requires-clause-operation : goal.enter_operation-requires-clause-operation
 enter_operation-requires-clause-operation g c =
     subst IsOperation c.node.ensures
-    (is_operation c.node.result c.in_default.not-Number c.in_default.not-Truth c.in_default.not-Variable c.in_default.not-Reading c.in_default.not-Function)
+    (is_operation c.node.result c.in_default.not-Number c.in_default.not-Truth c.in_default.not-Variable
+    c.in_default.not-Reading c.in_default.not-Function)

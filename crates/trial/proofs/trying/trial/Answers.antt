@@ -4,7 +4,8 @@ use Rattle.machine.specs.Reducing.{room_of}
 use Rattle.trial.specs.Running.{run_answer, run_end, RunAnswers, RunLeaves, Tells}
 use Rattle.trial.specs.SettingUp.{lent}
 use Rattle.trial.specs.Trying.{asked, TextTold, RuleTold, RecordLeft, TableLeft, TypesLeft, PlaceLeft, StoreKept}
-use Rattle.trial.proofs.Setting.{never_accepted, refused_rule, refused_out, refused_first, refused_second, text_told, rule_told, out_left, first_left, second_left, types_left, place_left, set_place}
+use Rattle.trial.proofs.Setting.{never_accepted, refused_rule, refused_out, refused_first, refused_second, text_told}
+use Rattle.trial.proofs.Setting.{rule_told, out_left, first_left, second_left, types_left, place_left, set_place}
 use Rattle.trial.proofs.Standing.{run_only, answers_concluded, tells_concluded, store_run_in}
 use Rattle.trial.proofs.trying.trial.Goals as goal
 
@@ -54,8 +55,10 @@ returns-in-Ok-clause-text g c =
     let answer = c.run_through-rule.result.report in
     let only = run_only (run_answer room up.2.0 up.2.1 c.args.readings.now c.args.steps) answer
     (c.run_through-rule.ensures.answer up.2.0 up.2.1 up.2.4) in
-    let given = asked c.args.text.now (names c.args.book.now) c.args.out.now c.args.first.now c.args.second.now c.args.types.now in
-    subst (λ x. TextTold given x) (sym c.conclude.ensures) (text_told c.args.text.now (names c.args.book.now) before after written up answer only)
+    let given = asked c.args.text.now (names c.args.book.now) c.args.out.now c.args.first.now c.args.second.now
+    c.args.types.now in
+    subst (λ x. TextTold given x) (sym c.conclude.ensures) (text_told c.args.text.now (names c.args.book.now) before
+    after written up answer only)
 
 pub returns-in-Ok-clause-rule : goal.returns-in-Ok-clause-rule
 returns-in-Ok-clause-rule g c bytes k =
@@ -67,8 +70,10 @@ returns-in-Ok-clause-rule g c bytes k =
     let answer = c.run_through-rule.result.report in
     let only = run_only (run_answer room up.2.0 up.2.1 c.args.readings.now c.args.steps) answer
     (c.run_through-rule.ensures.answer up.2.0 up.2.1 up.2.4) in
-    let given = asked c.args.text.now (names c.args.book.now) c.args.out.now c.args.first.now c.args.second.now c.args.types.now in
-    subst (λ x. RuleTold given bytes x) (sym c.conclude.ensures) (rule_told c.args.text.now (names c.args.book.now) before after written up answer only bytes k)
+    let given = asked c.args.text.now (names c.args.book.now) c.args.out.now c.args.first.now c.args.second.now
+    c.args.types.now in
+    subst (λ x. RuleTold given bytes x) (sym c.conclude.ensures) (rule_told c.args.text.now (names c.args.book.now)
+    before after written up answer only bytes k)
 
 pub returns-in-Ok-clause-run : goal.returns-in-Ok-clause-run
 returns-in-Ok-clause-run g c r t w h =
@@ -80,10 +85,12 @@ returns-in-Ok-clause-run g c r t w h =
     let answer = c.run_through-rule.result.report in
     let only = run_only (run_answer room up.2.0 up.2.1 c.args.readings.now c.args.steps) answer
     (c.run_through-rule.ensures.answer up.2.0 up.2.1 up.2.4) in
-    let given = asked c.args.text.now (names c.args.book.now) c.args.out.now c.args.first.now c.args.second.now c.args.types.now in
+    let given = asked c.args.text.now (names c.args.book.now) c.args.out.now c.args.first.now c.args.second.now
+    c.args.types.now in
     subst (λ x. RunAnswers (run_answer room r t c.args.readings.now c.args.steps) x) (sym c.conclude.ensures)
     (answers_concluded written (run_answer room r t c.args.readings.now c.args.steps) answer
-    (c.run_through-rule.ensures.answer r t (set_place c.args.text.now (names c.args.book.now) before after written up r t w h)))
+    (c.run_through-rule.ensures.answer r t (set_place c.args.text.now (names c.args.book.now) before after written up
+    r t w h)))
 
 pub returns-in-Ok-clause-report : goal.returns-in-Ok-clause-report
 returns-in-Ok-clause-report g c r t w h =
@@ -95,10 +102,12 @@ returns-in-Ok-clause-report g c r t w h =
     let answer = c.run_through-rule.result.report in
     let only = run_only (run_answer room up.2.0 up.2.1 c.args.readings.now c.args.steps) answer
     (c.run_through-rule.ensures.answer up.2.0 up.2.1 up.2.4) in
-    let given = asked c.args.text.now (names c.args.book.now) c.args.out.now c.args.first.now c.args.second.now c.args.types.now in
+    let given = asked c.args.text.now (names c.args.book.now) c.args.out.now c.args.first.now c.args.second.now
+    c.args.types.now in
     let end = run_end room r t c.args.readings.now c.args.steps in
     subst (λ x. IfOk x (λ done. Tells done.report end)) (sym c.conclude.ensures)
-    (tells_concluded written end answer (c.run_through-rule.ensures.report r t (set_place c.args.text.now (names c.args.book.now) before after written up r t w h)))
+    (tells_concluded written end answer (c.run_through-rule.ensures.report r t
+    (set_place c.args.text.now (names c.args.book.now) before after written up r t w h)))
 
 pub returns-in-Ok-clause-out_left : goal.returns-in-Ok-clause-out_left
 returns-in-Ok-clause-out_left g c =
@@ -110,8 +119,10 @@ returns-in-Ok-clause-out_left g c =
     let answer = c.run_through-rule.result.report in
     let only = run_only (run_answer room up.2.0 up.2.1 c.args.readings.now c.args.steps) answer
     (c.run_through-rule.ensures.answer up.2.0 up.2.1 up.2.4) in
-    let given = asked c.args.text.now (names c.args.book.now) c.args.out.now c.args.first.now c.args.second.now c.args.types.now in
-    subst (λ x. RecordLeft given before.out after.out x) (sym c.conclude.ensures) (out_left c.args.text.now (names c.args.book.now) before after written up answer only)
+    let given = asked c.args.text.now (names c.args.book.now) c.args.out.now c.args.first.now c.args.second.now
+    c.args.types.now in
+    subst (λ x. RecordLeft given before.out after.out x) (sym c.conclude.ensures)
+    (out_left c.args.text.now (names c.args.book.now) before after written up answer only)
 
 pub returns-in-Ok-clause-first_left : goal.returns-in-Ok-clause-first_left
 returns-in-Ok-clause-first_left g c =
@@ -123,8 +134,10 @@ returns-in-Ok-clause-first_left g c =
     let answer = c.run_through-rule.result.report in
     let only = run_only (run_answer room up.2.0 up.2.1 c.args.readings.now c.args.steps) answer
     (c.run_through-rule.ensures.answer up.2.0 up.2.1 up.2.4) in
-    let given = asked c.args.text.now (names c.args.book.now) c.args.out.now c.args.first.now c.args.second.now c.args.types.now in
-    subst (λ x. TableLeft given before.first after.first x) (sym c.conclude.ensures) (first_left c.args.text.now (names c.args.book.now) before after written up answer only)
+    let given = asked c.args.text.now (names c.args.book.now) c.args.out.now c.args.first.now c.args.second.now
+    c.args.types.now in
+    subst (λ x. TableLeft given before.first after.first x) (sym c.conclude.ensures)
+    (first_left c.args.text.now (names c.args.book.now) before after written up answer only)
 
 pub returns-in-Ok-clause-second_left : goal.returns-in-Ok-clause-second_left
 returns-in-Ok-clause-second_left g c =
@@ -136,8 +149,10 @@ returns-in-Ok-clause-second_left g c =
     let answer = c.run_through-rule.result.report in
     let only = run_only (run_answer room up.2.0 up.2.1 c.args.readings.now c.args.steps) answer
     (c.run_through-rule.ensures.answer up.2.0 up.2.1 up.2.4) in
-    let given = asked c.args.text.now (names c.args.book.now) c.args.out.now c.args.first.now c.args.second.now c.args.types.now in
-    subst (λ x. TableLeft given before.second after.second x) (sym c.conclude.ensures) (second_left c.args.text.now (names c.args.book.now) before after written up answer only)
+    let given = asked c.args.text.now (names c.args.book.now) c.args.out.now c.args.first.now c.args.second.now
+    c.args.types.now in
+    subst (λ x. TableLeft given before.second after.second x) (sym c.conclude.ensures) (second_left c.args.text.now
+    (names c.args.book.now) before after written up answer only)
 
 pub returns-in-Ok-clause-types_left : goal.returns-in-Ok-clause-types_left
 returns-in-Ok-clause-types_left g c =
@@ -149,8 +164,10 @@ returns-in-Ok-clause-types_left g c =
     let answer = c.run_through-rule.result.report in
     let only = run_only (run_answer room up.2.0 up.2.1 c.args.readings.now c.args.steps) answer
     (c.run_through-rule.ensures.answer up.2.0 up.2.1 up.2.4) in
-    let given = asked c.args.text.now (names c.args.book.now) c.args.out.now c.args.first.now c.args.second.now c.args.types.now in
-    subst (λ x. TypesLeft given before.types after.types x) (sym c.conclude.ensures) (types_left c.args.text.now (names c.args.book.now) before after written up answer only)
+    let given = asked c.args.text.now (names c.args.book.now) c.args.out.now c.args.first.now c.args.second.now
+    c.args.types.now in
+    subst (λ x. TypesLeft given before.types after.types x) (sym c.conclude.ensures)
+    (types_left c.args.text.now (names c.args.book.now) before after written up answer only)
 
 pub returns-in-Ok-clause-place_left : goal.returns-in-Ok-clause-place_left
 returns-in-Ok-clause-place_left g c =
@@ -162,9 +179,11 @@ returns-in-Ok-clause-place_left g c =
     let answer = c.run_through-rule.result.report in
     let only = run_only (run_answer room up.2.0 up.2.1 c.args.readings.now c.args.steps) answer
     (c.run_through-rule.ensures.answer up.2.0 up.2.1 up.2.4) in
-    let given = asked c.args.text.now (names c.args.book.now) c.args.out.now c.args.first.now c.args.second.now c.args.types.now in
+    let given = asked c.args.text.now (names c.args.book.now) c.args.out.now c.args.first.now c.args.second.now
+    c.args.types.now in
     subst (λ x. PlaceLeft given c.args.place x c.conclude.result) (sym c.run_through-rule.ensures.rule)
-    (subst (λ x. PlaceLeft given before.place after.place x) (sym c.conclude.ensures) (place_left c.args.text.now (names c.args.book.now) before after written up answer only))
+    (subst (λ x. PlaceLeft given before.place after.place x) (sym c.conclude.ensures)
+    (place_left c.args.text.now (names c.args.book.now) before after written up answer only))
 
 pub returns-in-Ok-clause-store_kept : goal.returns-in-Ok-clause-store_kept
 returns-in-Ok-clause-store_kept g c =
@@ -176,7 +195,8 @@ returns-in-Ok-clause-store_kept g c =
     let answer = c.run_through-rule.result.report in
     let only = run_only (run_answer room up.2.0 up.2.1 c.args.readings.now c.args.steps) answer
     (c.run_through-rule.ensures.answer up.2.0 up.2.1 up.2.4) in
-    let given = asked c.args.text.now (names c.args.book.now) c.args.out.now c.args.first.now c.args.second.now c.args.types.now in
+    let given = asked c.args.text.now (names c.args.book.now) c.args.out.now c.args.first.now c.args.second.now
+    c.args.types.now in
     subst (λ x. StoreKept c.args.store c.run_through-rule.result.store x) (sym c.conclude.ensures)
     (store_run_in written c.args.store c.run_through-rule.result.store answer only)
 
@@ -190,7 +210,10 @@ returns-in-Ok-clause-store_left g c r t w h =
     let answer = c.run_through-rule.result.report in
     let only = run_only (run_answer room up.2.0 up.2.1 c.args.readings.now c.args.steps) answer
     (c.run_through-rule.ensures.answer up.2.0 up.2.1 up.2.4) in
-    let given = asked c.args.text.now (names c.args.book.now) c.args.out.now c.args.first.now c.args.second.now c.args.types.now in
-    subst (λ x. RunLeaves room r t x.nodes.items c.args.readings.now c.args.steps (g.S.Store.room c.run_through-rule.result.store)
+    let given = asked c.args.text.now (names c.args.book.now) c.args.out.now c.args.first.now c.args.second.now
+    c.args.types.now in
+    subst (λ x. RunLeaves room r t x.nodes.items c.args.readings.now c.args.steps
+    (g.S.Store.room c.run_through-rule.result.store)
     (g.S.Store.lists c.run_through-rule.result.store)) (sym c.run_through-rule.ensures.rule)
-    (c.run_through-rule.ensures.leaves r t (set_place c.args.text.now (names c.args.book.now) before after written up r t w h))
+    (c.run_through-rule.ensures.leaves r t (set_place c.args.text.now (names c.args.book.now) before after written up
+    r t w h))

@@ -12,9 +12,11 @@ abbrev pub invariant-loop-to : goal.invariant-loop-to
 invariant-loop-to g l =
     let room = room_of (g.W.Store.whole l.fn.store) (g.W.Store.cost l.fn.store) in
     record {
-      goes : (root : Root) (s : Reckoned) → OnTheWay (rule_of l.nodes (g.W.Store.base l.fn.store)) (g.W.Store.lists l.fn.store) room (g.W.Store.room l.fn.store) root l.fn.self.table l.fn.from s →
+      goes : (root : Root) (s : Reckoned) → OnTheWay (rule_of l.nodes (g.W.Store.base l.fn.store))
+          (g.W.Store.lists l.fn.store) room (g.W.Store.room l.fn.store) root l.fn.self.table l.fn.from s →
           ((steps room (l.granted - l.left) s).count ≡ s.count + (l.granted - l.left)) ×
-          OnTheWay (rule_of l.nodes (g.W.Store.base l.fn.store)) (g.W.Store.lists l.store) room (g.W.Store.room l.store) root l.self.table l.next (steps room (l.granted - l.left) s);
+          OnTheWay (rule_of l.nodes (g.W.Store.base l.fn.store)) (g.W.Store.lists l.store) room
+          (g.W.Store.room l.store) root l.self.table l.next (steps room (l.granted - l.left) s);
       few : l.left ≤ l.granted;
       count : l.self.count ≡ l.fn.self.count;
       still : l.granted ≡ 0 → l.store ≡ l.fn.store;
