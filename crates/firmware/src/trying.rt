@@ -9,7 +9,7 @@ use crate::report::Told;
 use crate::run_place::RunPlace;
 use book::book::Book;
 use store::contract::{BareStore, Store};
-use trial::{Success, Tried, TrialFault, trial};
+use trial::{Success, TrialFault, Tried, trial};
 use typing::rule::Rule;
 use values::Value;
 
@@ -89,7 +89,9 @@ pub fn try_text<S: BareStore + Store<Elem = Value>>(
                 place,
                 store,
                 result,
-            } = trial(text, book, out, first, second, types, rule, store, readings, steps);
+            } = trial(
+                text, book, out, first, second, types, rule, store, readings, steps,
+            );
             TriedPlaces {
                 run: RunPlace::Closed(store),
                 rule: place,

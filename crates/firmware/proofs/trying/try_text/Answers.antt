@@ -10,19 +10,24 @@ returns-in-Closed g c =
     (λ place. TrialLeft g.S.Store.lists g.S.Store.whole g.S.Store.room g.S.Store.cost c.args.text.now (names c.args.book.now)
     (buffers c.args.out.now c.args.first.now c.args.second.now c.args.types.now) (buffers c.trial-place.new.out c.trial-place.new.first c.trial-place.new.second c.trial-place.new.types)
     place c.args.rule c.args.readings.now c.args.steps (Closed c.trial-place.result.store) c.trial-place.result.place c.of.result)
-    (sym c.in-Closed.is)
-    (c.trial-place.result.store, c.trial-place.result.result, refl, record {
-      text = c.trial-place.ensures.text;
-      record_told = c.trial-place.ensures.rule;
-      run = c.trial-place.ensures.run;
-      report = c.trial-place.ensures.report;
-      out_left = c.trial-place.ensures.out_left;
-      first_left = c.trial-place.ensures.first_left;
-      second_left = c.trial-place.ensures.second_left;
-      types_left = c.trial-place.ensures.types_left;
-      rule_left = c.trial-place.ensures.place_left;
-      store_kept = c.trial-place.ensures.store_kept;
-      store_left = c.trial-place.ensures.store_left;
-      whole_kept = c.trial-place.ensures.whole;
-      cost_kept = c.trial-place.ensures.cost;
-    }, c.of.ensures)
+    (sym c.in-Closed.is) (
+      c.trial-place.result.store,
+      c.trial-place.result.result,
+      refl,
+      record {
+        text = c.trial-place.ensures.text;
+        record_told = c.trial-place.ensures.rule;
+        run = c.trial-place.ensures.run;
+        report = c.trial-place.ensures.report;
+        out_left = c.trial-place.ensures.out_left;
+        first_left = c.trial-place.ensures.first_left;
+        second_left = c.trial-place.ensures.second_left;
+        types_left = c.trial-place.ensures.types_left;
+        rule_left = c.trial-place.ensures.place_left;
+        store_kept = c.trial-place.ensures.store_kept;
+        store_left = c.trial-place.ensures.store_left;
+        whole_kept = c.trial-place.ensures.whole;
+        cost_kept = c.trial-place.ensures.cost;
+      },
+      c.of.ensures,
+    )
