@@ -29,16 +29,14 @@ module _ {S : Type 0} (lists : S → Lists Value) (whole room : S → ℕ) (cost
         keeps,
         (
           subst (λ (r : Result (Unit {0}) RunFault). OnErr r (run' ≡ run)) answer err,
-          subst (λ (r : Result (Unit {0}) RunFault). OnOk r ((t : Tree) → IsTree run.rule t
-              → IsAt lists whole room cost run' t readings 0)) answer ok,
+          subst (λ (r : Result (Unit {0}) RunFault). OnOk r ((t : Tree) → IsTree run.rule t → IsAt lists whole room cost run' t readings 0)) answer ok,
           told ∙ ap replied answer,
         ),
       )
 
   pub granted_where_open : (steps : ℕ)
       → result ≡ grant_answer (state_of (reported run).state) (reported run).count steps
-      → OnOk result ((t : Tree) (readings : List ℤ) (g : ℕ) → IsAt lists whole room cost run t readings g
-      → IsAt lists whole room cost run' t readings (g + steps))
+      → OnOk result ((t : Tree) (readings : List ℤ) (g : ℕ) → IsAt lists whole room cost run t readings g → IsAt lists whole room cost run' t readings (g + steps))
       → Granted lists whole room cost place steps (Open run') reply
   granted_where_open steps answer ok =
       subst (λ (p : RunPlace S). Granted lists whole room cost p steps (Open run') reply) (sym is_open) (
@@ -47,9 +45,7 @@ module _ {S : Type 0} (lists : S → Lists Value) (whole room : S → ℕ) (cost
         keeps,
         (
           subst (λ (r : Result (Unit {0}) RunFault). OnErr r (run' ≡ run)) answer err,
-          subst (λ (r : Result (Unit {0}) RunFault). OnOk r ((t : Tree) (readings : List ℤ) (g : ℕ)
-              → IsAt lists whole room cost run t readings g → IsAt lists whole room cost run' t readings (g + steps)))
-              answer ok,
+          subst (λ (r : Result (Unit {0}) RunFault). OnOk r ((t : Tree) (readings : List ℤ) (g : ℕ) → IsAt lists whole room cost run t readings g → IsAt lists whole room cost run' t readings (g + steps))) answer ok,
           told ∙ ap replied answer,
         ),
       )

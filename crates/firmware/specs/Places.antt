@@ -62,8 +62,7 @@ Granted {S} lists whole room cost (Open run) steps place' reply =
     KeepsItsOwn whole cost run run' ×
     (let answer = grant_answer (state_of (reported run).state) (reported run).count steps in
     OnErr answer (run' ≡ run) ×
-    OnOk answer ((t : Tree) (readings : List ℤ) (g : ℕ) → IsAt lists whole room cost run t readings g
-    → IsAt lists whole room cost run' t readings (g + steps)) ×
+    OnOk answer ((t : Tree) (readings : List ℤ) (g : ℕ) → IsAt lists whole room cost run t readings g → IsAt lists whole room cost run' t readings (g + steps)) ×
     (reply ≡ replied answer))
 
 -- Closed: the store stands in the run place, and the rule in the rule place.

@@ -36,13 +36,7 @@ done n = record { refusal = 0; layer = 0; place = 0; count = n }
 
 -- the library refuses: with its number, its layer and its place
 abbrev pub refused : TrialFault → Reply
-refused f = record {
-  refusal = trial.number_of f;
-  layer = code_of (trial.layer_of f);
-  place =
-      trial.place_of f;
-  count = 0;
-}
+refused f = record { refusal = trial.number_of f; layer = code_of (trial.layer_of f); place = trial.place_of f; count = 0 }
 
 -- the call does not fit
 abbrev pub misused : CallFault → Reply
@@ -63,8 +57,7 @@ accept_reply (Ok n) = done n
 accept_reply (Err f) = refused (Rule f)
 
 -- the record was accepted or refused, the buffers and the rule are as accept leaves them, and the reply says so
-abbrev pub AcceptReplied : List ℕ → List ℕ → List ℕ → List ℕ → Received → List ℕ → List ℕ → List ℕ → Received → Reply
-    → Type 0
+abbrev pub AcceptReplied : List ℕ → List ℕ → List ℕ → List ℕ → Received → List ℕ → List ℕ → List ℕ → Received → Reply → Type 0
 AcceptReplied s first second types rule first' second' types' rule' reply =
     (answer : Result ℕ AcceptFault) ×
     Accepted s first second types rule first' second' types' rule' answer ×

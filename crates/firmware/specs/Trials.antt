@@ -9,8 +9,7 @@ use Rattle.machine.specs.Reducing.{room_of}
 use Rattle.trial.specs.declared.fault.TrialFault.{TrialFault}
 use Rattle.trial.specs.declared.trying.Success.{Success}
 use Rattle.trial.specs.Running.{run_answer, run_end, RunAnswers, RunLeaves, Tells}
-use Rattle.trial.specs.Trying.{Asked, asked, Accepts, Compiles, TextTold, RuleTold, RecordLeft, TableLeft, TypesLeft}
-use Rattle.trial.specs.Trying.{PlaceLeft, StoreKept}
+use Rattle.trial.specs.Trying.{Asked, asked, Accepts, Compiles, TextTold, RuleTold, RecordLeft, TableLeft, TypesLeft, PlaceLeft, StoreKept}
 use Rattle.firmware.specs.declared.reply.Reply.{Reply}
 use Rattle.firmware.specs.declared.report.Told.{Told}
 use Rattle.firmware.specs.declared.trying.Trial.{Trial}
@@ -60,19 +59,12 @@ no_trial reply = record { reply = reply; bytes = 0; entries = 0; report = no_run
 
 -- of what a trial comes to
 abbrev pub tried : Result Success TrialFault → Trial
-tried (Ok success) = record {
-  reply = done 0;
-  bytes = success.bytes;
-  entries = success.entries;
-  report =
-      plain success.report;
-}
+tried (Ok success) = record { reply = done 0; bytes = success.bytes; entries = success.entries; report = plain success.report }
 tried (Err f) = no_trial (refused f)
 
 -- A trial over a run place in which no run is open; where one is, all stays.
 abbrev pub TrialLeft : {S : Type 0} (lists : S → Lists Value) (whole room : S → ℕ) (cost : S → ℕ → ℕ)
-    → List ℕ → List Name → Buffers → Buffers → RunPlace S → Received → List ℤ → ℕ → RunPlace S → Received → Trial
-    → Type 0
+    → List ℕ → List Name → Buffers → Buffers → RunPlace S → Received → List ℤ → ℕ → RunPlace S → Received → Trial → Type 0
 TrialLeft {S} lists whole room cost text names before after (Closed store) rule readings steps place' rule' trial =
     (store' : S) ×
     (result : Result Success TrialFault) ×

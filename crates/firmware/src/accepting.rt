@@ -14,8 +14,7 @@ pub fn accept(
     second: &mut [u16],
     types: &mut [u16],
 ) -> Reply
-    ensures { AcceptReplied bytes.now first.old second.old types.old rule.old first.new second.new types.new rule.new
-        result }
+    ensures { AcceptReplied bytes.now first.old second.old types.old rule.old first.new second.new types.new rule.new result }
 {
     match typing::accept::accept(bytes, first, second, types, rule) {
         Ok(count) => Reply::done(count),

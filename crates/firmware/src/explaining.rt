@@ -3,7 +3,7 @@ ghost use Rattle.std.specs.Prelude.{◌≡◌};
 ghost use Rattle.firmware.specs.Replies.{Copied};
 
 /// What a refusal's number means; nothing where there is no such refusal.
-// The limits stand in these texts as people read them, since a constant text cannot be made from numbers.
+// Kept: the limits stand in these texts as people read them, since a constant text cannot be made from numbers.
 fn meaning(number: u32) -> &'static [u8] {
     match number {
         1 => b"this is not the length of the record",

@@ -21,8 +21,7 @@ pub struct Places<S: BareStore + Store<Elem = Value>> {
 /// Starts the rule of a rule place in a run place, with all readings 0; the rule place is new then. Refused where a run is
 /// open.
 pub fn start<S: BareStore + Store<Elem = Value>>(run: RunPlace<S>, rule: Rule) -> Places<S>
-    ensures { Started S.Store.lists S.Store.whole S.Store.room S.Store.cost run rule result.run result.rule
-        result.reply }
+    ensures { Started S.Store.lists S.Store.whole S.Store.room S.Store.cost run rule result.run result.rule result.reply }
 {
     match run {
         RunPlace::Closed(store) => Places {

@@ -76,9 +76,7 @@ pub fn try_text<S: BareStore + Store<Elem = Value>>(
     readings: &[i32],
     steps: u32,
 ) -> TriedPlaces<S>
-    ensures { TrialLeft S.Store.lists S.Store.whole S.Store.room S.Store.cost text.now (names book.now)
-        (buffers out.old first.old second.old types.old) (buffers out.new first.new second.new types.new) run rule
-        readings.now steps result.run result.rule result.trial }
+    ensures { TrialLeft S.Store.lists S.Store.whole S.Store.room S.Store.cost text.now (names book.now) (buffers out.old first.old second.old types.old) (buffers out.new first.new second.new types.new) run rule readings.now steps result.run result.rule result.trial }
 {
     match run {
         RunPlace::Open(run) => TriedPlaces {

@@ -39,8 +39,7 @@ rewound = Rewound lists whole room cost
 abbrev pub granted : RunPlace Cells → ℕ → RunPlace Cells → Reply → Type 0
 granted = Granted lists whole room cost
 
-abbrev pub tries : List ℕ → List Name → Buffers → Buffers → RunPlace Cells → Received → List ℤ → ℕ → RunPlace Cells
-    → Received → Trial → Type 0
+abbrev pub tries : List ℕ → List Name → Buffers → Buffers → RunPlace Cells → Received → List ℤ → ℕ → RunPlace Cells → Received → Trial → Type 0
 tries = TrialLeft lists whole room cost
 
 -- a new store over so many cells, all of them blank, with no run

@@ -22,8 +22,7 @@ fn accept_in(
     second: &mut [u16],
     types: &mut [u16],
 ) -> Reply
-    ensures { AcceptReplied bytes.now first.old second.old types.old rule.old first.new second.new types.new rule.new
-        result }
+    ensures { AcceptReplied bytes.now first.old second.old types.old rule.old first.new second.new types.new rule.new result }
 {
     accept(rule, bytes, first, second, types)
 }
@@ -44,12 +43,8 @@ pub unsafe extern "C" fn fun_accept(
     ghost lent: { RuleAt × (Share × List ℕ) × List ℕ × List ℕ × List ℕ }
     requires testable { Testable rule × Testable bytes × Testable first × Testable second × Testable types }
     requires fits { Room u8 count × Room u16 first_count × Room u16 second_count × Room u16 types_count }
-    requires* memory { sem 𝓛 (place rule_row lent.0 rule) ∗ sem 𝓛 (shown u8 lent.1.0 count lent.1.1 bytes) ∗ sem 𝓛
-        (slots u16 first_count lent.2 first) ∗ sem 𝓛 (slots u16 second_count lent.3 second) ∗ sem 𝓛
-        (slots u16 types_count lent.4 types) }
-    ensures* { ex 𝓤 (λ (left : RuleAt × List ℕ × List ℕ × List ℕ). (sem 𝓛 (place rule_row left.0 rule) ∗ sem 𝓛
-        (shown u8 lent.1.0 count lent.1.1 bytes) ∗ sem 𝓛 (slots u16 first_count left.1 first) ∗ sem 𝓛
-        (slots u16 second_count left.2 second) ∗ sem 𝓛 (slots u16 types_count left.3 types)) ∗
+    requires* memory { sem 𝓛 (place rule_row lent.0 rule) ∗ sem 𝓛 (shown u8 lent.1.0 count lent.1.1 bytes) ∗ sem 𝓛 (slots u16 first_count lent.2 first) ∗ sem 𝓛 (slots u16 second_count lent.3 second) ∗ sem 𝓛 (slots u16 types_count lent.4 types) }
+    ensures* { ex 𝓤 (λ (left : RuleAt × List ℕ × List ℕ × List ℕ). (sem 𝓛 (place rule_row left.0 rule) ∗ sem 𝓛 (shown u8 lent.1.0 count lent.1.1 bytes) ∗ sem 𝓛 (slots u16 first_count left.1 first) ∗ sem 𝓛 (slots u16 second_count left.2 second) ∗ sem 𝓛 (slots u16 types_count left.3 types)) ∗
         ⌜ unless (any_null (rule ∷ bytes ∷ first ∷ second ∷ types ∷ [])) ((left ≡ (lent.0, lent.2, lent.3, lent.4)) × (result ≡ null_reply)) (AcceptReplied lent.1.1 lent.2 lent.3 lent.4 lent.0 left.1 left.2 left.3 left.0 result) ⌝) }
 {
     if rule.is_null() | bytes.is_null() | first.is_null() | second.is_null() | types.is_null() {

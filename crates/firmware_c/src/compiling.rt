@@ -33,8 +33,7 @@ fn compile_in(book: &mut Book, text: &[u8], out: &mut [u8]) -> Reply
 pub unsafe extern "C" fn fun_book_new(book: *mut ()) -> Reply
     requires testable { Testable book }
     requires* memory { sem 𝓛 (vacant book_row book) }
-    ensures* { ex 𝓤 (λ (left : Option BookAt). sem 𝓛 (made book_row left book) ∗ ⌜ unless (any_null (book ∷ []))
-        (IsNotMade left × (result ≡ null_reply)) (IsMade left (λ new. names new ≡ []) × (result ≡ done_reply)) ⌝) }
+    ensures* { ex 𝓤 (λ (left : Option BookAt). sem 𝓛 (made book_row left book) ∗ ⌜ unless (any_null (book ∷ [])) (IsNotMade left × (result ≡ null_reply)) (IsMade left (λ new. names new ≡ []) × (result ≡ done_reply)) ⌝) }
 {
     if book.is_null() {
         return refused_null();
@@ -51,9 +50,7 @@ pub unsafe extern "C" fn fun_book_add(book: *mut (), name: *const u8, count: usi
     requires testable { Testable book × Testable name }
     requires fits { Room u8 count }
     requires* memory { sem 𝓛 (place book_row lent.0 book) ∗ sem 𝓛 (shown u8 lent.1.0 count lent.1.1 name) }
-    ensures* { ex 𝓤 (λ (left : BookAt). (sem 𝓛 (place book_row left book) ∗ sem 𝓛
-        (shown u8 lent.1.0 count lent.1.1 name)) ∗ ⌜ unless (any_null (book ∷ name ∷ [])) ((left ≡ lent.0)
-        × (result ≡ null_reply)) (NameReplied (names lent.0) (names left) lent.1.1 result) ⌝) }
+    ensures* { ex 𝓤 (λ (left : BookAt). (sem 𝓛 (place book_row left book) ∗ sem 𝓛 (shown u8 lent.1.0 count lent.1.1 name)) ∗ ⌜ unless (any_null (book ∷ name ∷ [])) ((left ≡ lent.0) × (result ≡ null_reply)) (NameReplied (names lent.0) (names left) lent.1.1 result) ⌝) }
 {
     if book.is_null() | name.is_null() {
         return refused_null();
@@ -73,10 +70,8 @@ pub unsafe extern "C" fn fun_compile(
     ghost lent: { BookAt × (Share × List ℕ) × List ℕ }
     requires testable { Testable book × Testable text × Testable out }
     requires fits { Room u8 count × Room u8 out_count }
-    requires* memory { sem 𝓛 (place book_row lent.0 book) ∗ sem 𝓛 (shown u8 lent.1.0 count lent.1.1 text) ∗ sem 𝓛
-        (slots u8 out_count lent.2 out) }
-    ensures* { ex 𝓤 (λ (left : BookAt × List ℕ). (sem 𝓛 (place book_row left.0 book) ∗ sem 𝓛
-        (shown u8 lent.1.0 count lent.1.1 text) ∗ sem 𝓛 (slots u8 out_count left.1 out)) ∗
+    requires* memory { sem 𝓛 (place book_row lent.0 book) ∗ sem 𝓛 (shown u8 lent.1.0 count lent.1.1 text) ∗ sem 𝓛 (slots u8 out_count lent.2 out) }
+    ensures* { ex 𝓤 (λ (left : BookAt × List ℕ). (sem 𝓛 (place book_row left.0 book) ∗ sem 𝓛 (shown u8 lent.1.0 count lent.1.1 text) ∗ sem 𝓛 (slots u8 out_count left.1 out)) ∗
         ⌜ unless (any_null (book ∷ text ∷ out ∷ [])) ((left ≡ (lent.0, lent.2)) × (result ≡ null_reply)) ((left.0 ≡ lent.0) × CompileReplied lent.1.1 (names lent.0) lent.2 left.1 result) ⌝) }
 {
     if book.is_null() | text.is_null() | out.is_null() {

@@ -31,8 +31,7 @@ pub unsafe extern "C" fn fun_explain(refusal: u32, out: *mut u8, count: usize) -
     requires testable { Testable out }
     requires fits { Room u8 count }
     requires* memory { sem 𝓛 (slots u8 count lent out) }
-    ensures* { ex 𝓤 (λ (left : List ℕ). sem 𝓛 (slots u8 count left out) ∗ ⌜ unless (any_null (out ∷ []))
-        ((left ≡ lent) × (result ≡ 0)) (Copied lent left result) ⌝) }
+    ensures* { ex 𝓤 (λ (left : List ℕ). sem 𝓛 (slots u8 count left out) ∗ ⌜ unless (any_null (out ∷ [])) ((left ≡ lent) × (result ≡ 0)) (Copied lent left result) ⌝) }
 {
     if out.is_null() {
         return nothing_told();

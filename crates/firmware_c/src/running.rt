@@ -38,8 +38,7 @@ pub unsafe extern "C" fn fun_grant(run: *mut (), steps: u32) -> Reply
     ghost lent: { RunAt }
     requires testable { Testable run }
     requires* memory { sem 𝓛 (place run_row lent run) }
-    ensures* { ex 𝓤 (λ (left : RunAt). sem 𝓛 (place run_row left run) ∗ ⌜ unless (any_null (run ∷ [])) ((left ≡ lent)
-        × (result ≡ null_reply)) (granted lent steps left result) ⌝) }
+    ensures* { ex 𝓤 (λ (left : RunAt). sem 𝓛 (place run_row left run) ∗ ⌜ unless (any_null (run ∷ [])) ((left ≡ lent) × (result ≡ null_reply)) (granted lent steps left result) ⌝) }
 {
     if run.is_null() {
         return refused_null();
@@ -53,8 +52,7 @@ pub unsafe extern "C" fn fun_ask(run: *mut ()) -> Told
     ghost lent: { RunAt }
     requires testable { Testable run }
     requires* memory { sem 𝓛 (place run_row lent run) }
-    ensures* { ex 𝓤 (λ (left : RunAt). sem 𝓛 (place run_row left run) ∗ ⌜ unless (any_null (run ∷ [])) ((left ≡ lent)
-        × (result ≡ null_told)) ((left ≡ lent) × (result ≡ told lent)) ⌝) }
+    ensures* { ex 𝓤 (λ (left : RunAt). sem 𝓛 (place run_row left run) ∗ ⌜ unless (any_null (run ∷ [])) ((left ≡ lent) × (result ≡ null_told)) ((left ≡ lent) × (result ≡ told lent)) ⌝) }
 {
     if run.is_null() {
         return told_null();
@@ -69,9 +67,7 @@ pub unsafe extern "C" fn fun_rewind(run: *mut (), readings: *const i32, count: u
     requires testable { Testable run × Testable readings }
     requires fits { Room i32 count }
     requires* memory { sem 𝓛 (place run_row lent.0 run) ∗ sem 𝓛 (shown i32 lent.1.0 count lent.1.1 readings) }
-    ensures* { ex 𝓤 (λ (left : RunAt). (sem 𝓛 (place run_row left run) ∗ sem 𝓛
-        (shown i32 lent.1.0 count lent.1.1 readings)) ∗ ⌜ unless (any_null (run ∷ readings ∷ [])) ((left ≡ lent.0)
-        × (result ≡ null_reply)) (rewound lent.0 lent.1.1 left result) ⌝) }
+    ensures* { ex 𝓤 (λ (left : RunAt). (sem 𝓛 (place run_row left run) ∗ sem 𝓛 (shown i32 lent.1.0 count lent.1.1 readings)) ∗ ⌜ unless (any_null (run ∷ readings ∷ [])) ((left ≡ lent.0) × (result ≡ null_reply)) (rewound lent.0 lent.1.1 left result) ⌝) }
 {
     if run.is_null() | readings.is_null() {
         return refused_null();

@@ -70,9 +70,7 @@ pub unsafe extern "C" fn fun_start(run: *mut (), rule: *mut ()) -> Reply
     ghost lent: { RunAt × RuleAt }
     requires testable { Testable run × Testable rule }
     requires* memory { sem 𝓛 (place run_row lent.0 run) ∗ sem 𝓛 (place rule_row lent.1 rule) }
-    ensures* { ex 𝓤 (λ (left : RunAt × RuleAt). (sem 𝓛 (place run_row left.0 run) ∗ sem 𝓛
-        (place rule_row left.1 rule)) ∗ ⌜ unless (any_null (run ∷ rule ∷ [])) ((left ≡ lent) × (result ≡ null_reply))
-        (started lent.0 lent.1 left.0 left.1 result) ⌝) }
+    ensures* { ex 𝓤 (λ (left : RunAt × RuleAt). (sem 𝓛 (place run_row left.0 run) ∗ sem 𝓛 (place rule_row left.1 rule)) ∗ ⌜ unless (any_null (run ∷ rule ∷ [])) ((left ≡ lent) × (result ≡ null_reply)) (started lent.0 lent.1 left.0 left.1 result) ⌝) }
 {
     if run.is_null() | rule.is_null() {
         return refused_null();
@@ -86,9 +84,7 @@ pub unsafe extern "C" fn fun_close(run: *mut (), rule: *mut ()) -> Reply
     ghost lent: { RunAt × RuleAt }
     requires testable { Testable run × Testable rule }
     requires* memory { sem 𝓛 (place run_row lent.0 run) ∗ sem 𝓛 (place rule_row lent.1 rule) }
-    ensures* { ex 𝓤 (λ (left : RunAt × RuleAt). (sem 𝓛 (place run_row left.0 run) ∗ sem 𝓛
-        (place rule_row left.1 rule)) ∗ ⌜ unless (any_null (run ∷ rule ∷ [])) ((left ≡ lent) × (result ≡ null_reply))
-        (Closing lent.0 lent.1 left.0 left.1 result) ⌝) }
+    ensures* { ex 𝓤 (λ (left : RunAt × RuleAt). (sem 𝓛 (place run_row left.0 run) ∗ sem 𝓛 (place rule_row left.1 rule)) ∗ ⌜ unless (any_null (run ∷ rule ∷ [])) ((left ≡ lent) × (result ≡ null_reply)) (Closing lent.0 lent.1 left.0 left.1 result) ⌝) }
 {
     if run.is_null() | rule.is_null() {
         return refused_null();
@@ -102,8 +98,7 @@ pub unsafe extern "C" fn fun_free(run: *mut ()) -> Reply
     ghost lent: { RunAt }
     requires testable { Testable run }
     requires* memory { sem 𝓛 (place run_row lent run) }
-    ensures* { ex 𝓤 (λ (left : RunAt). sem 𝓛 (place run_row left run) ∗ ⌜ unless (any_null (run ∷ [])) ((left ≡ lent)
-        × (result ≡ null_reply)) ((left ≡ lent) × (result ≡ freed room lent)) ⌝) }
+    ensures* { ex 𝓤 (λ (left : RunAt). sem 𝓛 (place run_row left run) ∗ ⌜ unless (any_null (run ∷ [])) ((left ≡ lent) × (result ≡ null_reply)) ((left ≡ lent) × (result ≡ freed room lent)) ⌝) }
 {
     if run.is_null() {
         return refused_null();
@@ -116,9 +111,7 @@ pub unsafe extern "C" fn fun_free(run: *mut ()) -> Reply
 pub unsafe extern "C" fn fun_rule_new(rule: *mut ()) -> Reply
     requires testable { Testable rule }
     requires* memory { sem 𝓛 (vacant rule_row rule) }
-    ensures* { ex 𝓤 (λ (left : Option RuleAt). sem 𝓛 (made rule_row left rule) ∗ ⌜ unless (any_null (rule ∷ []))
-        (IsNotMade left × (result ≡ null_reply)) (IsMade left (λ new. IsRule new 0 (number (pos 0)))
-        × (result ≡ done_reply)) ⌝) }
+    ensures* { ex 𝓤 (λ (left : Option RuleAt). sem 𝓛 (made rule_row left rule) ∗ ⌜ unless (any_null (rule ∷ [])) (IsNotMade left × (result ≡ null_reply)) (IsMade left (λ new. IsRule new 0 (number (pos 0))) × (result ≡ done_reply)) ⌝) }
 {
     if rule.is_null() {
         return refused_null();
@@ -135,9 +128,7 @@ pub unsafe extern "C" fn fun_run_new(run: *mut (), cells: *mut Cell<Value>, coun
     requires testable { Testable run × Testable cells }
     requires fits { Room cell_row count }
     requires* memory { sem 𝓛 (vacant run_row run) ∗ sem 𝓛 (slots cell_row count lent cells) }
-    ensures* { ex 𝓤 (λ (left : Option RunAt). (sem 𝓛 (made run_row left run) ∗ sem 𝓛
-        (comes_back left (slots cell_row count lent cells))) ∗ ⌜ unless (any_null (run ∷ cells ∷ [])) (IsNotMade left
-        × (result ≡ null_reply)) (IsMade left (λ new. fresh_over count new) × (result ≡ done_reply)) ⌝) }
+    ensures* { ex 𝓤 (λ (left : Option RunAt). (sem 𝓛 (made run_row left run) ∗ sem 𝓛 (comes_back left (slots cell_row count lent cells))) ∗ ⌜ unless (any_null (run ∷ cells ∷ [])) (IsNotMade left × (result ≡ null_reply)) (IsMade left (λ new. fresh_over count new) × (result ≡ done_reply)) ⌝) }
 {
     if run.is_null() | cells.is_null() {
         return refused_null();

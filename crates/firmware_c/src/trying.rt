@@ -39,8 +39,7 @@ fn try_in(
     readings: &[i32],
     steps: u32,
 ) -> Trial
-    ensures { (book.new ≡ book.old) × tries text.now (names book.old) (buffers out.old first.old second.old types.old)
-        (buffers out.new first.new second.new types.new) run.old rule.old readings.now steps run.new rule.new result }
+    ensures { (book.new ≡ book.old) × tries text.now (names book.old) (buffers out.old first.old second.old types.old) (buffers out.new first.new second.new types.new) run.old rule.old readings.now steps run.new rule.new result }
 {
     let TriedPlaces {
         run: next,
@@ -84,16 +83,11 @@ pub unsafe extern "C" fn fun_trial(
     steps: u32,
 ) -> Trial
     ghost lent: { RunAt × RuleAt × BookAt × (Share × List ℕ) × List ℕ × List ℕ × List ℕ × List ℕ × (Share × List ℤ) }
-    requires testable { Testable run × Testable rule × Testable book × Testable text × Testable out × Testable first
-        × Testable second × Testable types × Testable readings }
-    requires fits { Room u8 text_count × Room u8 out_count × Room u16 first_count × Room u16 second_count
-        × Room u16 types_count × Room i32 count }
-    requires* memory { sem 𝓛 (place run_row lent.0 run) ∗ sem 𝓛 (place rule_row lent.1 rule) ∗ sem 𝓛
-        (place book_row lent.2 book) ∗ sem 𝓛 (shown u8 lent.3.0 text_count lent.3.1 text) ∗
+    requires testable { Testable run × Testable rule × Testable book × Testable text × Testable out × Testable first × Testable second × Testable types × Testable readings }
+    requires fits { Room u8 text_count × Room u8 out_count × Room u16 first_count × Room u16 second_count × Room u16 types_count × Room i32 count }
+    requires* memory { sem 𝓛 (place run_row lent.0 run) ∗ sem 𝓛 (place rule_row lent.1 rule) ∗ sem 𝓛 (place book_row lent.2 book) ∗ sem 𝓛 (shown u8 lent.3.0 text_count lent.3.1 text) ∗
         sem 𝓛 (slots u8 out_count lent.4 out) ∗ sem 𝓛 (slots u16 first_count lent.5 first) ∗ sem 𝓛 (slots u16 second_count lent.6 second) ∗ sem 𝓛 (slots u16 types_count lent.7 types) ∗ sem 𝓛 (shown i32 lent.8.0 count lent.8.1 readings) }
-    ensures* { ex 𝓤 (λ (left : RunAt × RuleAt × BookAt × List ℕ × List ℕ × List ℕ × List ℕ).
-        (sem 𝓛 (place run_row left.0 run) ∗ sem 𝓛 (place rule_row left.1 rule) ∗ sem 𝓛 (place book_row left.2 book) ∗
-        sem 𝓛 (shown u8 lent.3.0 text_count lent.3.1 text) ∗
+    ensures* { ex 𝓤 (λ (left : RunAt × RuleAt × BookAt × List ℕ × List ℕ × List ℕ × List ℕ). (sem 𝓛 (place run_row left.0 run) ∗ sem 𝓛 (place rule_row left.1 rule) ∗ sem 𝓛 (place book_row left.2 book) ∗ sem 𝓛 (shown u8 lent.3.0 text_count lent.3.1 text) ∗
         sem 𝓛 (slots u8 out_count left.3 out) ∗ sem 𝓛 (slots u16 first_count left.4 first) ∗ sem 𝓛 (slots u16 second_count left.5 second) ∗ sem 𝓛 (slots u16 types_count left.6 types) ∗ sem 𝓛 (shown i32 lent.8.0 count lent.8.1 readings)) ∗
         ⌜ unless (any_null (run ∷ rule ∷ book ∷ text ∷ out ∷ first ∷ second ∷ types ∷ readings ∷ []))
         ((left ≡ (lent.0, lent.1, lent.2, lent.4, lent.5, lent.6, lent.7)) × (result ≡ null_trial))

@@ -5,8 +5,7 @@ use Rattle.firmware.proofs.running.start.Goals as goal
 
 pub returns-in-Closed : goal.returns-in-Closed
 returns-in-Closed g c =
-    subst (λ p. Started g.S.Store.lists g.S.Store.whole g.S.Store.room g.S.Store.cost p c.args.rule
-    (Open c.start.result) c.new.result c.done.result)
+    subst (λ p. Started g.S.Store.lists g.S.Store.whole g.S.Store.room g.S.Store.cost p c.args.rule (Open c.start.result) c.new.result c.done.result)
     (sym c.in-Closed.is) (
       c.start.result,
       refl,

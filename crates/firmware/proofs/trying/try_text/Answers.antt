@@ -7,12 +7,9 @@ use Rattle.firmware.proofs.trying.try_text.Goals as goal
 pub returns-in-Closed : goal.returns-in-Closed
 returns-in-Closed g c =
     subst
-    (λ place. TrialLeft g.S.Store.lists g.S.Store.whole g.S.Store.room g.S.Store.cost c.args.text.now
-    (names c.args.book.now)
-    (buffers c.args.out.now c.args.first.now c.args.second.now c.args.types.now)
-    (buffers c.trial-place.new.out c.trial-place.new.first c.trial-place.new.second c.trial-place.new.types)
-    place c.args.rule c.args.readings.now c.args.steps (Closed c.trial-place.result.store) c.trial-place.result.place
-    c.of.result)
+    (λ place. TrialLeft g.S.Store.lists g.S.Store.whole g.S.Store.room g.S.Store.cost c.args.text.now (names c.args.book.now)
+    (buffers c.args.out.now c.args.first.now c.args.second.now c.args.types.now) (buffers c.trial-place.new.out c.trial-place.new.first c.trial-place.new.second c.trial-place.new.types)
+    place c.args.rule c.args.readings.now c.args.steps (Closed c.trial-place.result.store) c.trial-place.result.place c.of.result)
     (sym c.in-Closed.is) (
       c.trial-place.result.store,
       c.trial-place.result.result,

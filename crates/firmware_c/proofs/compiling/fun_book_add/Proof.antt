@@ -64,8 +64,16 @@ fun_book_add_spec 𝓤 𝓛 𝓜 𝓡 wired =
     let of_usize = Goes-dropped 𝓛 0 (plain (λ _. usize)) yes (λ κs x w. refl) in
     proved 𝓛 f.ended stayed c 𝓜 𝓡 (of_ptr, (of_ptr, (of_usize, tt)))
     f.Key.name code.function (code.unfolded 𝓤 𝓛.H 𝓜 𝓡 wired)
-    (λ κs. (rawptr_vals, (rawptr_vals, (uint_vals w64, tt))))
-    (λ κs. (rawptr_Tells, (rawptr_Tells, (uint_Tells w64, tt)))) (λ κs qs bounds a lent are.
+    (λ κs. (rawptr_vals, (rawptr_vals, (uint_vals w64, tt)))) (λ κs. (
+      rawptr_Tells,
+      (
+        rawptr_Tells,
+        (
+          uint_Tells w64,
+          tt,
+        ),
+      ),
+    )) (λ κs qs bounds a lent are.
     let y : Ptr → Ptr → ℕ → W.Ghost = λ book name count. (
       (
         κs,
@@ -73,25 +81,18 @@ fun_book_add_spec 𝓤 𝓛 𝓜 𝓡 wired =
         bounds,
         (book, (name, (count, tt))),
         (
-          rawptr_vals book,
-          (
-            rawptr_vals name,
-            (
-              uint_vals w64 count,
-              tt,
-            ),
-          ),
+          rawptr_vals
+              book,
+          (rawptr_vals name, (uint_vals w64 count, tt)),
         ),
       ),
       lent,
     ) in
-    let at : Ptr → Ptr → ℕ → Goal 𝓤 𝓛.H = λ book name count.
-    prop (WpFn 𝓤 𝓛.H 𝓣.C 𝓣.Λ code.function
-    (rawptr_vals book ++ (rawptr_vals name ++ (uint_vals w64 count ++ []))) (W.post (y book name count))) in
-    qed 𝓛 (raw (on_entry 𝓛 f.signature κs qs a (y a.0 a.1.0 a.1.1.0).0.4) ∷
-    (raw (fact 𝓤 (Testable a.0 × Testable a.1.0)) ⊛ (raw (fact 𝓤 (Room u8 a.1.1.0)) ⊛
-    (‵ (place book_row lent.0 a.0) ⊛ ‵ (shown u8 lent.1.0 a.1.1.0 lent.1.1 a.1.0)))) ∷ []) ∵ drop ! $
-    split ! $ heard ! (Testable a.0 × Testable a.1.0) (λ may.
+    let at : Ptr → Ptr → ℕ → Goal 𝓤 𝓛.H = λ book name count. prop (WpFn 𝓤 𝓛.H 𝓣.C 𝓣.Λ code.function (rawptr_vals
+    book ++ (rawptr_vals name ++ (uint_vals w64 count ++ []))) (W.post (y book name count))) in
+    qed 𝓛 (raw (on_entry 𝓛 f.signature κs qs a (y a.0 a.1.0 a.1.1.0).0.4) ∷ (raw (fact 𝓤 (Testable a.0 × Testable
+    a.1.0)) ⊛ (raw (fact 𝓤 (Room u8 a.1.1.0)) ⊛ (‵ (place book_row lent.0 a.0) ⊛ ‵ (shown u8 lent.1.0 a.1.1.0
+    lent.1.1 a.1.0)))) ∷ []) ∵ drop ! $ split ! $ heard ! (Testable a.0 × Testable a.1.0) (λ may.
     split ! $ heard ! (Room u8 a.1.1.0) (λ room.
     split ! $
     by_test ! (any_null (a.0 ∷ a.1.0 ∷ []))
@@ -99,30 +100,36 @@ fun_book_add_spec 𝓤 𝓛 𝓜 𝓡 wired =
       ((rawptr_Lawful 𝓛).typed a.0 _ refl).0,
       (
         ((rawptr_Lawful 𝓛).typed a.1.0 _ refl).0,
-        ((tt, record { fits = are.1.1.0.1 }), tt),
+        (
+          (
+            tt,
+            record {
+              fits =
+                  are.1.1.0.1;
+            },
+          ),
+          tt,
+        ),
       ),
-    ) $
-    sets ! (bin ! (get ! refl) (lit ! tt) (tests_null a.0 may.0)) refl (tt, tt) $
-    sets ! (bin ! (get ! refl) (lit ! tt) (tests_null a.1.0 may.1)) refl (tt, tt) $ sets !
-    (bin ! (get ! refl) (get ! refl) tt) refl (tt, tt) $
-    first ! $ branches ! (get ! refl) (λ t.
+    ) $ sets ! (bin ! (get ! refl) (lit ! tt) (tests_null a.0 may.0)) refl (tt, tt) $
+    sets ! (bin ! (get ! refl) (lit ! tt) (tests_null a.1.0 may.1)) refl (tt, tt) $
+    sets ! (bin ! (get ! refl) (get ! refl) tt) refl (tt, tt) $ first ! $ branches ! (get ! refl) (λ t.
     let N = triple_of 𝓛 n.signature (n.spec 𝓛 𝓜.mem 𝓡.returns) in
     let z : N.Ghost = ((tt, tt, tt, tt, tt), tt) in
-    nothing ! $ nothing ! $ join ! $ nothing ! $ move ! (1 ∷ 0 ∷ []) $ join ! $
-    use1 𝓛 (raw (N.pre z)) (id⊢ 𝓤 _) $
-    calls_at ! fm N (null_met.met 𝓤 𝓛 𝓜 𝓡 (code.calls-firmware_c::lent::refused_null 𝓡.env wired)) z (no_more !) (λ v.
+    nothing ! $ nothing ! $ join ! $ nothing ! $ move ! (1 ∷ 0 ∷ []) $ join ! $ use1 𝓛 (raw (N.pre z)) (id⊢ 𝓤 _) $
+    calls_at ! fm N (null_met.met 𝓤 𝓛 𝓜 𝓡 (code.calls-firmware_c::lent::refused_null 𝓡.env wired)) z (no_more !) (λ
+    v.
     use1 𝓛 (later (some (λ (r : Reply). (‵ ftrue ⊛ ‵ (reply.the_row.own_val r (v ∷ []))) ⊛
     some (λ ws. ‵ (lasts n.ended z.0.0 z.0.3 ws) ⊛ raw (fact 𝓤 (r ≡ null_reply)))))) (id⊢ 𝓤 _) $
     await ! tt $ pick ! (λ r. split ! $ split ! $ drop ! $
-    peeks ! reply.the_row (Is reply.the_row) (shows 𝓛 reply.the_row) r (v ∷ [])
-    (λ is. lands_as ! refl refl ((the_row_laws.lawful 𝓛).typed r _ is).0 $
+    peeks ! reply.the_row (Is reply.the_row) (shows 𝓛 reply.the_row) r (v ∷ []) (λ is. lands_as ! refl refl
+    ((the_row_laws.lawful 𝓛).typed r _ is).0 $
     move ! (1 ∷ []) $ pick ! (λ ws. split ! $ drop ! $ heard ! _ (λ replied_so.
     returns_within ! (W.post (y a.0 a.1.0 a.1.1.0)) refl (look_at ! 0 refl) $ free_all ! refl $
     suffices ! _ (ends_at 𝓛 f.ended stayed c (y a.0 a.1.0 a.1.1.0) v r (tt, (tt, (tt, tt))) (tt, (tt, (tt, tt)))) $
     nothing ! $ nothing ! $ join ! $ nothing ! $ join ! $ nothing ! $ join ! $ nothing ! $ group ! 3 $ frame ! $
-    show ! (λ (left : BookAt). sep 𝓤 (sep 𝓤 (sem 𝓛 (place book_row left a.0))
-    (sem 𝓛 (shown u8 lent.1.0 a.1.1.0 lent.1.1 a.1.0)))
-    (fact 𝓤 (unless (any_null (a.0 ∷ a.1.0 ∷ [])) ((left ≡ lent.0) × (r ≡ null_reply))
+    show ! (λ (left : BookAt). sep 𝓤 (sep 𝓤 (sem 𝓛 (place book_row left a.0)) (sem 𝓛 (shown u8 lent.1.0 a.1.1.0
+    lent.1.1 a.1.0))) (fact 𝓤 (unless (any_null (a.0 ∷ a.1.0 ∷ [])) ((left ≡ lent.0) × (r ≡ null_reply))
     (NameReplied (names lent.0) (names left) lent.1.1 r)))) lent.0 $
     says ! (λ _. (refl, replied_so), λ t. absurd (both_ways _ null t)) $ done !))))))
     (λ t. absurd (both_ways _ null t))))
@@ -132,49 +139,55 @@ fun_book_add_spec 𝓤 𝓛 𝓜 𝓡 wired =
     rewrite ! 0 (λ (p : Ptr). ‵ (place book_row lent.0 p)) is_book refl $
     regoal ! (λ (p : Ptr). at p a.1.0 a.1.1.0) is_book refl $
     rewrite ! 1 (λ (p : Ptr). ‵ (shown u8 lent.1.0 a.1.1.0 lent.1.1 p)) is_name refl $
-    regoal ! (λ (p : Ptr). at (block_ptr (block_of a.0) (count_of a.0)) p a.1.1.0) is_name refl $
-    move ! (1 ∷ []) $
+    regoal ! (λ (p : Ptr). at (block_ptr (block_of a.0) (count_of a.0)) p a.1.1.0) is_name refl $ move ! (1 ∷ []) $
     fsplit ! $ feq_l ! (λ long_name.
     feq_i ! ℕ (length lent.1.1) (length lent.1.1) refl $ fjoin ! $
-    regoal ! (λ (n : ℕ). at (block_ptr (block_of a.0) (count_of a.0)) (block_ptr (block_of a.1.0) (count_of a.1.0)) n)
-    (sym long_name) refl $
+    regoal ! (λ (n : ℕ). at (block_ptr (block_of a.0) (count_of a.0)) (block_ptr (block_of a.1.0) (count_of a.1.0))
+    n) (sym long_name) refl $
     let room_name : Room u8 (length lent.1.1) = subst (Room u8) (sym long_name) room in
     enter ! 𝓣.C 𝓣.Λ code.function _ _ $ alloc_all ! (λ l. pass_all ! refl
     ((tt, tt), ((tt, tt), ((tt, record { fits = room_name.0 }), tt))) $
-    sets ! (bin ! (get ! refl) (lit ! tt) (tests_null (block_ptr (block_of a.0) (count_of a.0))
-    (subst Testable is_book may.0))) refl (tt, tt) $
-    sets ! (bin ! (get ! refl) (lit ! tt) (tests_null (block_ptr (block_of a.1.0) (count_of a.1.0))
-    (subst Testable is_name may.1))) refl (tt, tt) $ sets ! (bin ! (get ! refl) (get ! refl) tt) refl (tt, tt) $
+    sets ! (bin ! (get ! refl) (lit ! tt) (tests_null (block_ptr (block_of a.0) (count_of a.0)) (subst Testable
+    is_book may.0))) refl (tt, tt) $
+    sets ! (bin ! (get ! refl) (lit ! tt) (tests_null (block_ptr (block_of a.1.0) (count_of a.1.0)) (subst Testable
+    is_name may.1))) refl (tt, tt) $ sets ! (bin ! (get ! refl) (get ! refl) tt) refl (tt, tt) $
     first ! $ branches ! (get ! refl) (λ t. absurd t) (λ t. skips ! $
-    exec ! 𝓣.C 𝓣.Λ (env code.Mir.locals l) code.Mir.t-5
-    (at_ret _ (W.post (y (block_ptr (block_of a.0) (count_of a.0)) (block_ptr (block_of a.1.0) (count_of a.1.0))
-    (length lent.1.1)))) $
+    exec ! 𝓣.C 𝓣.Λ (env code.Mir.locals l) code.Mir.t-5 (at_ret _ (W.post (y (block_ptr (block_of a.0) (count_of
+    a.0)) (block_ptr (block_of a.1.0) (count_of a.1.0)) (length lent.1.1)))) $
     sets ! (of_opd ! (get ! refl)) refl (tt, tt) $ sets ! (addr ! (through ! refl (stop !))) refl (tt, tt) $
-    sets ! (agg ! (and_then ! (get ! refl) (and_then ! (get ! refl) (no_more !)))) refl
-    (tt, (tt, (record { fits = room_name.0 }, tt))) $
+    sets ! (agg ! (and_then ! (get ! refl) (and_then ! (get ! refl) (no_more !)))) refl (
+      tt,
+      (
+        tt,
+        (
+          record {
+            fits =
+                room_name.0;
+          },
+          tt,
+        ),
+      ),
+    ) $
     let at_book : ℕ → MutBor book_row.Denot = λ δ. record {
       ref_ptr = (block_of a.0, count_of a.0);
-      ghost_name =
-          δ;
+      ghost_name = δ;
       now = lent.0;
     } in
     let at_name : Bor (List ℕ) = record { ref_ptr = (block_of a.1.0, count_of a.1.0); now = lent.1.1 } in
     lft_new ! tt (λ α0.
     move ! (2 ∷ []) $
-    use1 𝓛 (later (some (λ (δ : ℕ). ‵ ((MutRef (named 0) (α0 ∷ []) book_row).own_val (at_book δ)
-    (mut_vals (at_book δ))) ⊛ ‵ (flent (α0 ∷ []) (Body (mem book_row) (block_of a.0) (count_of a.0) δ)))))
-    (lends_ref 𝓛 book_row (named 0) (α0 ∷ []) lent.0 (block_of a.0) (count_of a.0)) $ await ! tt $ pick !
-    (λ δ0. split ! $
-    lft_new ! tt (λ α1.
+    use1 𝓛 (later (some (λ (δ : ℕ). ‵ ((MutRef (named 0) (α0 ∷ []) book_row).own_val (at_book δ) (mut_vals (at_book
+    δ))) ⊛ ‵ (flent (α0 ∷ []) (Body (mem book_row) (block_of a.0) (count_of a.0) δ)))))
+    (lends_ref 𝓛 book_row (named 0) (α0 ∷ []) lent.0 (block_of a.0) (count_of a.0)) $ await ! tt $
+    pick ! (λ δ0. split ! $ lft_new ! tt (λ α1.
     move ! (4 ∷ 0 ∷ []) $
     use2 𝓛 (later ((‵ ((ShrSlice (named 1) (α1 ∷ []) u8).own_val at_name (slice_val (block_of a.1.0, count_of a.1.0)
     (length lent.1.1) ∷ [])) ⊛
-    ‵ (flent (α1 ∷ []) ((arr_parts (shares u8) (length lent.1.1)).part lent.1.0 lent.1.1 (block_of a.1.0)
-    (count_of a.1.0)))) ⊛ ‵ (flft (α1 ∷ []) full_share)))
-    (lends_shr_slice 𝓛 u8 (named 1) (α1 ∷ []) lent.1.0 lent.1.1 (block_of a.1.0) (count_of a.1.0) room_name (α1 ∷ [])
-    ((uint_Copied 𝓛 w8).shares lent.1.0 (α1 ∷ [])) (((α1 ∷ []), full_share) ∷ []) (Incl-refl (α1 ∷ []))
-    (Incl-refl (α1 ∷ []))) $
-    await ! tt $ split ! $ split ! $
+    ‵ (flent (α1 ∷ []) ((arr_parts (shares u8) (length lent.1.1)).part lent.1.0 lent.1.1 (block_of a.1.0) (count_of
+    a.1.0)))) ⊛ ‵ (flft (α1 ∷ []) full_share)))
+    (lends_shr_slice 𝓛 u8 (named 1) (α1 ∷ []) lent.1.0 lent.1.1 (block_of a.1.0) (count_of a.1.0) room_name (α1 ∷
+    []) ((uint_Copied 𝓛 w8).shares lent.1.0 (α1 ∷ [])) (((α1 ∷ []), full_share) ∷ []) (Incl-refl (α1 ∷ []))
+    (Incl-refl (α1 ∷ []))) $ await ! tt $ split ! $ split ! $
     let G = triple_of 𝓛 g.signature (g.spec 𝓛 𝓜.mem 𝓡.returns) in
     let z : G.Ghost = (
       (
@@ -186,51 +199,29 @@ fun_book_add_spec 𝓤 𝓛 𝓜 𝓡 wired =
       ),
       tt,
     ) in
-    nothing ! $
-    move ! (1 ∷ 0 ∷ []) $
-    fjoin ! $
-    move ! (3 ∷ 0 ∷ []) $
-    fjoin ! $
-    nothing ! $
-    move ! (3 ∷ 0 ∷ []) $
-    join ! $
-    move ! (4 ∷ 0 ∷ []) $
-    join ! $
-    join ! $
+    nothing ! $ move ! (1 ∷ 0 ∷ []) $ fjoin ! $ move ! (3 ∷ 0 ∷ []) $ fjoin ! $ nothing ! $ move ! (3 ∷ 0 ∷ []) $
+    join ! $ move ! (4 ∷ 0 ∷ []) $ join ! $ join ! $
     nothing ! $ move ! (1 ∷ 0 ∷ []) $ join ! $ use1 𝓛 (raw (G.pre z)) (id⊢ 𝓤 _) $
     calls_at ! fm G (met 𝓤 𝓛 𝓜 𝓡 (code.calls-firmware_c::compiling::add_in 𝓡.env wired)) z
     (and_then ! (get ! refl) (and_then ! (get ! refl) (no_more !))) (λ v.
-    use1 𝓛 (later (some (λ (r : Reply). ((‵ (flft (α0 ∷ []) full_share) ⊛ (‵ (flft (α1 ∷ []) full_share) ⊛ ‵ ftrue)) ⊛
-    ‵ (reply.the_row.own_val r (v ∷ []))) ⊛
-    some (λ (ws : (book_row.Denot × (Unit {0} × Unit {0}))). ‵ (lasts g.ended z.0.0 z.0.3 ws) ⊛ raw
-    (fact 𝓤 (NameReplied (names lent.0) (names ws.0) lent.1.1 r)))))) (id⊢ 𝓤 _) $
-    await ! tt $ pick ! (λ r. split ! $ split ! $
-    split ! $ lft_end ! tt $
-    move ! (1 ∷ []) $
-    split ! $ lft_end ! tt $
+    use1 𝓛 (later (some (λ (r : Reply). ((‵ (flft (α0 ∷ []) full_share) ⊛ (‵ (flft (α1 ∷ []) full_share) ⊛ ‵ ftrue))
+    ⊛ ‵ (reply.the_row.own_val r (v ∷ []))) ⊛
+    some (λ (ws : (book_row.Denot × (Unit {0} × Unit {0}))). ‵ (lasts g.ended z.0.0 z.0.3 ws) ⊛ raw (fact 𝓤
+    (NameReplied (names lent.0) (names ws.0) lent.1.1 r)))))) (id⊢ 𝓤 _) $
+    await ! tt $ pick ! (λ r. split ! $ split ! $ split ! $ lft_end ! tt $ move ! (1 ∷ []) $ split ! $ lft_end ! tt $
     move ! (3 ∷ []) $
-    peeks ! reply.the_row (Is reply.the_row) (shows 𝓛 reply.the_row) r (v ∷ [])
-    (λ is. lands_as ! refl refl ((the_row_laws.lawful 𝓛).typed r _ is).0 $
-    move ! (4 ∷ []) $
+    peeks ! reply.the_row (Is reply.the_row) (shows 𝓛 reply.the_row) r (v ∷ []) (λ is. lands_as ! refl refl
+    ((the_row_laws.lawful 𝓛).typed r _ is).0 $ move ! (4 ∷ []) $
     pick ! (λ ws. split ! $ move ! (1 ∷ []) $ heard ! _ (λ done_so.
-    fsplit ! $
-    fsplit ! $
-    move ! (2 ∷ []) $
-    fsplit ! $
-    move ! (7 ∷ 9 ∷ 2 ∷ []) $
-    use3 𝓛 (later (‵ (part_at book_row full_share ws.0 (block_of a.0) (count_of a.0))))
-    (ref_back 𝓛 book_row (α0 ∷ []) δ0 ws.0 (block_of a.0) (count_of a.0)) $ await ! tt $
-    move ! (5 ∷ 7 ∷ []) $
-    lent_back ! tt $
-    returns ! (look_at ! 0 refl) $ free_all ! refl $
-    keep ! (5 ∷ 1 ∷ 0 ∷ []) $
-    suffices ! _ (ends_at 𝓛 f.ended stayed c (y (block_ptr (block_of a.0) (count_of a.0))
-    (block_ptr (block_of a.1.0) (count_of a.1.0)) (length lent.1.1)) v r (tt, (tt, (tt, tt)))
-    (tt, (tt, (tt, tt)))) $
+    fsplit ! $ fsplit ! $ move ! (2 ∷ []) $ fsplit ! $ move ! (7 ∷ 9 ∷ 2 ∷ []) $
+    use3 𝓛 (later (‵ (part_at book_row full_share ws.0 (block_of a.0) (count_of a.0)))) (ref_back 𝓛 book_row (α0 ∷
+    []) δ0 ws.0 (block_of a.0) (count_of a.0)) $ await ! tt $ move ! (5 ∷ 7 ∷ []) $ lent_back ! tt $
+    returns ! (look_at ! 0 refl) $ free_all ! refl $ keep ! (5 ∷ 1 ∷ 0 ∷ []) $
+    suffices ! _ (ends_at 𝓛 f.ended stayed c (y (block_ptr (block_of a.0) (count_of a.0)) (block_ptr (block_of
+    a.1.0) (count_of a.1.0)) (length lent.1.1)) v r (tt, (tt, (tt, tt))) (tt, (tt, (tt, tt)))) $
     nothing ! $ nothing ! $ join ! $ nothing ! $ join ! $ nothing ! $ join ! $ nothing ! $ group ! 3 $ frame ! $
     show ! (λ (left : BookAt). sep 𝓤 (sep 𝓤 (sem 𝓛 (place book_row left (block_ptr (block_of a.0) (count_of a.0))))
-    (sem 𝓛 (shown u8 lent.1.0 (length lent.1.1) lent.1.1 (block_ptr (block_of a.1.0) (count_of a.1.0)))))
-    (fact 𝓤 (unless (any_null ((block_ptr (block_of a.0) (count_of a.0)) ∷
-    (block_ptr (block_of a.1.0) (count_of a.1.0)) ∷ [])) ((left ≡ lent.0) × (r ≡ null_reply))
-    (NameReplied (names lent.0) (names left) lent.1.1 r))))
+    (sem 𝓛 (shown u8 lent.1.0 (length lent.1.1) lent.1.1 (block_ptr (block_of a.1.0) (count_of a.1.0))))) (fact 𝓤
+    (unless (any_null ((block_ptr (block_of a.0) (count_of a.0)) ∷ (block_ptr (block_of a.1.0) (count_of a.1.0)) ∷
+    [])) ((left ≡ lent.0) × (r ≡ null_reply)) (NameReplied (names lent.0) (names left) lent.1.1 r))))
     ws.0 $ says ! (λ t. absurd t, λ _. done_so) $ done !)))))))))))))))

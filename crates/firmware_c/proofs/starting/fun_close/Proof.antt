@@ -56,10 +56,25 @@ fun_close_spec 𝓤 𝓛 𝓜 𝓡 wired =
     proved 𝓛 f.ended stayed c 𝓜 𝓡 (of_ptr, (of_ptr, tt))
     f.Key.name code.function (code.unfolded 𝓤 𝓛.H 𝓜 𝓡 wired)
     (λ κs. (rawptr_vals, (rawptr_vals, tt))) (λ κs. (rawptr_Tells, (rawptr_Tells, tt))) (λ κs qs bounds a lent are.
-    let y : Ptr → Ptr → W.Ghost = λ run rule.
-    ((κs, qs, bounds, (run, (rule, tt)), (rawptr_vals run, (rawptr_vals rule, tt))), lent) in
-    let at : Ptr → Ptr → Goal 𝓤 𝓛.H = λ run rule.
-    prop (WpFn 𝓤 𝓛.H 𝓣.C 𝓣.Λ code.function (rawptr_vals run ++ (rawptr_vals rule ++ [])) (W.post (y run rule))) in
+    let y : Ptr → Ptr → W.Ghost = λ run rule. (
+      (
+        κs,
+        qs,
+        bounds,
+        (run, (rule, tt)),
+        (
+          rawptr_vals run,
+          (
+            rawptr_vals
+                rule,
+            tt,
+          ),
+        ),
+      ),
+      lent,
+    ) in
+    let at : Ptr → Ptr → Goal 𝓤 𝓛.H = λ run rule. prop (WpFn 𝓤 𝓛.H 𝓣.C 𝓣.Λ code.function (rawptr_vals run ++
+    (rawptr_vals rule ++ [])) (W.post (y run rule))) in
     qed 𝓛 (raw (on_entry 𝓛 f.signature κs qs a (y a.0 a.1.0).0.4) ∷ (raw (fact 𝓤 (Testable a.0 × Testable a.1.0)) ⊛
     (‵ (place run_row lent.0 a.0) ⊛ ‵ (place rule_row lent.1 a.1.0))) ∷ []) ∵ drop ! $
     split ! $ heard ! (Testable a.0 × Testable a.1.0) (λ may.
@@ -68,27 +83,25 @@ fun_close_spec 𝓤 𝓛 𝓜 𝓡 wired =
     (λ null. enter ! 𝓣.C 𝓣.Λ code.function _ _ $ alloc_all ! (λ l. pass_all ! refl
     (((rawptr_Lawful 𝓛).typed a.0 _ refl).0, (((rawptr_Lawful 𝓛).typed a.1.0 _ refl).0, tt)) $
     sets ! (bin ! (get ! refl) (lit ! tt) (tests_null a.0 may.0)) refl (tt, tt) $
-    sets ! (bin ! (get ! refl) (lit ! tt) (tests_null a.1.0 may.1)) refl (tt, tt) $ sets !
-    (bin ! (get ! refl) (get ! refl) tt) refl (tt, tt) $
-    first ! $ branches ! (get ! refl) (λ t.
+    sets ! (bin ! (get ! refl) (lit ! tt) (tests_null a.1.0 may.1)) refl (tt, tt) $
+    sets ! (bin ! (get ! refl) (get ! refl) tt) refl (tt, tt) $ first ! $ branches ! (get ! refl) (λ t.
     let N = triple_of 𝓛 n.signature (n.spec 𝓛 𝓜.mem 𝓡.returns) in
     let z : N.Ghost = ((tt, tt, tt, tt, tt), tt) in
-    nothing ! $ nothing ! $ join ! $ nothing ! $ move ! (1 ∷ 0 ∷ []) $ join ! $
-    use1 𝓛 (raw (N.pre z)) (id⊢ 𝓤 _) $
-    calls_at ! fm N (null_met.met 𝓤 𝓛 𝓜 𝓡 (code.calls-firmware_c::lent::refused_null 𝓡.env wired)) z (no_more !) (λ v.
+    nothing ! $ nothing ! $ join ! $ nothing ! $ move ! (1 ∷ 0 ∷ []) $ join ! $ use1 𝓛 (raw (N.pre z)) (id⊢ 𝓤 _) $
+    calls_at ! fm N (null_met.met 𝓤 𝓛 𝓜 𝓡 (code.calls-firmware_c::lent::refused_null 𝓡.env wired)) z (no_more !) (λ
+    v.
     use1 𝓛 (later (some (λ (r : Reply). (‵ ftrue ⊛ ‵ (reply.the_row.own_val r (v ∷ []))) ⊛
     some (λ ws. ‵ (lasts n.ended z.0.0 z.0.3 ws) ⊛ raw (fact 𝓤 (r ≡ null_reply)))))) (id⊢ 𝓤 _) $
     await ! tt $ pick ! (λ r. split ! $ split ! $ drop ! $
-    peeks ! reply.the_row (Is reply.the_row) (shows 𝓛 reply.the_row) r (v ∷ [])
-    (λ is. lands_as ! refl refl ((the_row_laws.lawful 𝓛).typed r _ is).0 $
+    peeks ! reply.the_row (Is reply.the_row) (shows 𝓛 reply.the_row) r (v ∷ []) (λ is. lands_as ! refl refl
+    ((the_row_laws.lawful 𝓛).typed r _ is).0 $
     move ! (1 ∷ []) $ pick ! (λ ws. split ! $ drop ! $ heard ! _ (λ replied_so.
     returns_within ! (W.post (y a.0 a.1.0)) refl (look_at ! 0 refl) $ free_all ! refl $
     suffices ! _ (ends_at 𝓛 f.ended stayed c (y a.0 a.1.0) v r (tt, (tt, tt)) (tt, (tt, tt))) $
     nothing ! $ nothing ! $ join ! $ nothing ! $ join ! $ nothing ! $ group ! 3 $ frame ! $
-    show ! (λ (left : RunAt × RuleAt). sep 𝓤 (sep 𝓤 (sem 𝓛 (place run_row left.0 a.0))
-    (sem 𝓛 (place rule_row left.1 a.1.0)))
-    (fact 𝓤 (unless (any_null (a.0 ∷ a.1.0 ∷ [])) ((left ≡ (lent.0, lent.1)) × (r ≡ null_reply))
-    (Closing lent.0 lent.1 left.0 left.1 r)))) (lent.0, lent.1) $
+    show ! (λ (left : RunAt × RuleAt). sep 𝓤 (sep 𝓤 (sem 𝓛 (place run_row left.0 a.0)) (sem 𝓛 (place rule_row left.1
+    a.1.0))) (fact 𝓤 (unless (any_null (a.0 ∷ a.1.0 ∷ [])) ((left ≡ (lent.0, lent.1)) × (r ≡ null_reply)) (Closing
+    lent.0 lent.1 left.0 left.1 r)))) (lent.0, lent.1) $
     says ! (λ _. (refl, replied_so), λ t. absurd (both_ways _ null t)) $ done !))))))
     (λ t. absurd (both_ways _ null t))))
     (λ leads.
@@ -100,20 +113,18 @@ fun_close_spec 𝓤 𝓛 𝓜 𝓡 wired =
     regoal ! (λ (p : Ptr). at (block_ptr (block_of a.0) (count_of a.0)) p) is_rule refl $
     enter ! 𝓣.C 𝓣.Λ code.function _ _ $ alloc_all ! (λ l. pass_all ! refl
     ((tt, tt), ((tt, tt), tt)) $
-    sets ! (bin ! (get ! refl) (lit ! tt) (tests_null (block_ptr (block_of a.0) (count_of a.0))
-    (subst Testable is_run may.0))) refl (tt, tt) $
-    sets ! (bin ! (get ! refl) (lit ! tt) (tests_null (block_ptr (block_of a.1.0) (count_of a.1.0))
-    (subst Testable is_rule may.1))) refl (tt, tt) $ sets ! (bin ! (get ! refl) (get ! refl) tt) refl (tt, tt) $
+    sets ! (bin ! (get ! refl) (lit ! tt) (tests_null (block_ptr (block_of a.0) (count_of a.0)) (subst Testable
+    is_run may.0))) refl (tt, tt) $
+    sets ! (bin ! (get ! refl) (lit ! tt) (tests_null (block_ptr (block_of a.1.0) (count_of a.1.0)) (subst Testable
+    is_rule may.1))) refl (tt, tt) $ sets ! (bin ! (get ! refl) (get ! refl) tt) refl (tt, tt) $
     first ! $ branches ! (get ! refl) (λ t. absurd t) (λ t. skips ! $
-    exec ! 𝓣.C 𝓣.Λ (env code.Mir.locals l) code.Mir.t-5
-    (at_ret _ (W.post (y (block_ptr (block_of a.0) (count_of a.0))
-    (block_ptr (block_of a.1.0) (count_of a.1.0))))) $
+    exec ! 𝓣.C 𝓣.Λ (env code.Mir.locals l) code.Mir.t-5 (at_ret _ (W.post (y (block_ptr (block_of a.0) (count_of
+    a.0)) (block_ptr (block_of a.1.0) (count_of a.1.0))))) $
     sets ! (of_opd ! (get ! refl)) refl (tt, tt) $ sets ! (addr ! (through ! refl (stop !))) refl (tt, tt) $
     sets ! (of_opd ! (get ! refl)) refl (tt, tt) $ sets ! (addr ! (through ! refl (stop !))) refl (tt, tt) $
     let at_run : ℕ → MutBor run_row.Denot = λ δ. record {
       ref_ptr = (block_of a.0, count_of a.0);
-      ghost_name =
-          δ;
+      ghost_name = δ;
       now = lent.0;
     } in
     let at_rule : ℕ → MutBor rule_row.Denot = λ δ. record {
@@ -124,16 +135,15 @@ fun_close_spec 𝓤 𝓛 𝓜 𝓡 wired =
     } in
     lft_new ! tt (λ α0.
     move ! (1 ∷ []) $
-    use1 𝓛 (later (some (λ (δ : ℕ). ‵ ((MutRef (named 0) (α0 ∷ []) run_row).own_val (at_run δ) (mut_vals (at_run δ)))
-    ⊛ ‵ (flent (α0 ∷ []) (Body (mem run_row) (block_of a.0) (count_of a.0) δ)))))
-    (lends_ref 𝓛 run_row (named 0) (α0 ∷ []) lent.0 (block_of a.0) (count_of a.0)) $ await ! tt $ pick !
-    (λ δ0. split ! $
-    lft_new ! tt (λ α1.
+    use1 𝓛 (later (some (λ (δ : ℕ). ‵ ((MutRef (named 0) (α0 ∷ []) run_row).own_val (at_run δ) (mut_vals (at_run
+    δ))) ⊛ ‵ (flent (α0 ∷ []) (Body (mem run_row) (block_of a.0) (count_of a.0) δ)))))
+    (lends_ref 𝓛 run_row (named 0) (α0 ∷ []) lent.0 (block_of a.0) (count_of a.0)) $ await ! tt $
+    pick ! (λ δ0. split ! $ lft_new ! tt (λ α1.
     move ! (4 ∷ []) $
-    use1 𝓛 (later (some (λ (δ : ℕ). ‵ ((MutRef (named 1) (α1 ∷ []) rule_row).own_val (at_rule δ)
-    (mut_vals (at_rule δ))) ⊛ ‵ (flent (α1 ∷ []) (Body (mem rule_row) (block_of a.1.0) (count_of a.1.0) δ)))))
-    (lends_ref 𝓛 rule_row (named 1) (α1 ∷ []) lent.1 (block_of a.1.0) (count_of a.1.0)) $ await ! tt $ pick !
-    (λ δ1. split ! $
+    use1 𝓛 (later (some (λ (δ : ℕ). ‵ ((MutRef (named 1) (α1 ∷ []) rule_row).own_val (at_rule δ) (mut_vals (at_rule
+    δ))) ⊛ ‵ (flent (α1 ∷ []) (Body (mem rule_row) (block_of a.1.0) (count_of a.1.0) δ)))))
+    (lends_ref 𝓛 rule_row (named 1) (α1 ∷ []) lent.1 (block_of a.1.0) (count_of a.1.0)) $ await ! tt $
+    pick ! (λ δ1. split ! $
     let G = triple_of 𝓛 g.signature (g.spec 𝓛 𝓜.mem 𝓡.returns) in
     let z : G.Ghost = (
       (
@@ -145,53 +155,30 @@ fun_close_spec 𝓤 𝓛 𝓜 𝓡 wired =
       ),
       tt,
     ) in
-    nothing ! $
-    move ! (1 ∷ 0 ∷ []) $
-    fjoin ! $
-    move ! (3 ∷ 0 ∷ []) $
-    fjoin ! $
-    nothing ! $
-    move ! (3 ∷ 0 ∷ []) $
-    join ! $
-    move ! (4 ∷ 0 ∷ []) $
-    join ! $
-    join ! $
+    nothing ! $ move ! (1 ∷ 0 ∷ []) $ fjoin ! $ move ! (3 ∷ 0 ∷ []) $ fjoin ! $ nothing ! $ move ! (3 ∷ 0 ∷ []) $
+    join ! $ move ! (4 ∷ 0 ∷ []) $ join ! $ join ! $
     nothing ! $ move ! (1 ∷ 0 ∷ []) $ join ! $ use1 𝓛 (raw (G.pre z)) (id⊢ 𝓤 _) $
     calls_at ! fm G (met 𝓤 𝓛 𝓜 𝓡 (code.calls-firmware_c::starting::close_in 𝓡.env wired)) z
     (and_then ! (get ! refl) (and_then ! (get ! refl) (no_more !))) (λ v.
-    use1 𝓛 (later (some (λ (r : Reply). ((‵ (flft (α0 ∷ []) full_share) ⊛ (‵ (flft (α1 ∷ []) full_share) ⊛ ‵ ftrue)) ⊛
-    ‵ (reply.the_row.own_val r (v ∷ []))) ⊛
-    some (λ (ws : (run_row.Denot × (rule_row.Denot × Unit {0}))). ‵ (lasts g.ended z.0.0 z.0.3 ws) ⊛ raw
-    (fact 𝓤 (Closing lent.0 lent.1 ws.0 ws.1.0 r)))))) (id⊢ 𝓤 _) $
-    await ! tt $ pick ! (λ r. split ! $ split ! $
-    split ! $ lft_end ! tt $
-    move ! (1 ∷ []) $
-    split ! $ lft_end ! tt $
-    move ! (3 ∷ []) $
-    peeks ! reply.the_row (Is reply.the_row) (shows 𝓛 reply.the_row) r (v ∷ [])
-    (λ is. lands_as ! refl refl ((the_row_laws.lawful 𝓛).typed r _ is).0 $
-    move ! (4 ∷ []) $
+    use1 𝓛 (later (some (λ (r : Reply). ((‵ (flft (α0 ∷ []) full_share) ⊛ (‵ (flft (α1 ∷ []) full_share) ⊛ ‵ ftrue))
+    ⊛ ‵ (reply.the_row.own_val r (v ∷ []))) ⊛
+    some (λ (ws : (run_row.Denot × (rule_row.Denot × Unit {0}))). ‵ (lasts g.ended z.0.0 z.0.3 ws) ⊛ raw (fact 𝓤
+    (Closing lent.0 lent.1 ws.0 ws.1.0 r)))))) (id⊢ 𝓤 _) $ await ! tt $ pick ! (λ r. split ! $ split ! $
+    split ! $ lft_end ! tt $ move ! (1 ∷ []) $ split ! $ lft_end ! tt $ move ! (3 ∷ []) $
+    peeks ! reply.the_row (Is reply.the_row) (shows 𝓛 reply.the_row) r (v ∷ []) (λ is. lands_as ! refl refl
+    ((the_row_laws.lawful 𝓛).typed r _ is).0 $ move ! (4 ∷ []) $
     pick ! (λ ws. split ! $ move ! (1 ∷ []) $ heard ! _ (λ done_so.
-    fsplit ! $
-    fsplit ! $
-    move ! (2 ∷ []) $
-    fsplit ! $
-    fsplit ! $
-    move ! (8 ∷ 10 ∷ 3 ∷ []) $
-    use3 𝓛 (later (‵ (part_at run_row full_share ws.0 (block_of a.0) (count_of a.0))))
-    (ref_back 𝓛 run_row (α0 ∷ []) δ0 ws.0 (block_of a.0) (count_of a.0)) $ await ! tt $
-    move ! (6 ∷ 8 ∷ 1 ∷ []) $
-    use3 𝓛 (later (‵ (part_at rule_row full_share ws.1.0 (block_of a.1.0) (count_of a.1.0))))
-    (ref_back 𝓛 rule_row (α1 ∷ []) δ1 ws.1.0 (block_of a.1.0) (count_of a.1.0)) $ await ! tt $
-    returns ! (look_at ! 0 refl) $ free_all ! refl $
-    keep ! (5 ∷ 1 ∷ 0 ∷ []) $
-    suffices ! _ (ends_at 𝓛 f.ended stayed c (y (block_ptr (block_of a.0) (count_of a.0))
-    (block_ptr (block_of a.1.0) (count_of a.1.0))) v r (tt, (tt, tt)) (tt, (tt, tt))) $
+    fsplit ! $ fsplit ! $ move ! (2 ∷ []) $ fsplit ! $ fsplit ! $ move ! (8 ∷ 10 ∷ 3 ∷ []) $
+    use3 𝓛 (later (‵ (part_at run_row full_share ws.0 (block_of a.0) (count_of a.0)))) (ref_back 𝓛 run_row (α0 ∷ [])
+    δ0 ws.0 (block_of a.0) (count_of a.0)) $ await ! tt $ move ! (6 ∷ 8 ∷ 1 ∷ []) $
+    use3 𝓛 (later (‵ (part_at rule_row full_share ws.1.0 (block_of a.1.0) (count_of a.1.0)))) (ref_back 𝓛 rule_row
+    (α1 ∷ []) δ1 ws.1.0 (block_of a.1.0) (count_of a.1.0)) $ await ! tt $
+    returns ! (look_at ! 0 refl) $ free_all ! refl $ keep ! (5 ∷ 1 ∷ 0 ∷ []) $
+    suffices ! _ (ends_at 𝓛 f.ended stayed c (y (block_ptr (block_of a.0) (count_of a.0)) (block_ptr (block_of
+    a.1.0) (count_of a.1.0))) v r (tt, (tt, tt)) (tt, (tt, tt))) $
     nothing ! $ nothing ! $ join ! $ nothing ! $ join ! $ nothing ! $ group ! 3 $ frame ! $
-    show ! (λ (left : RunAt × RuleAt).
-    sep 𝓤 (sep 𝓤 (sem 𝓛 (place run_row left.0 (block_ptr (block_of a.0) (count_of a.0))))
-    (sem 𝓛 (place rule_row left.1 (block_ptr (block_of a.1.0) (count_of a.1.0)))))
-    (fact 𝓤 (unless (any_null ((block_ptr (block_of a.0) (count_of a.0)) ∷
-    (block_ptr (block_of a.1.0) (count_of a.1.0)) ∷ [])) ((left ≡ (lent.0, lent.1)) × (r ≡ null_reply))
-    (Closing lent.0 lent.1 left.0 left.1 r))))
+    show ! (λ (left : RunAt × RuleAt). sep 𝓤 (sep 𝓤 (sem 𝓛 (place run_row left.0 (block_ptr (block_of a.0) (count_of
+    a.0)))) (sem 𝓛 (place rule_row left.1 (block_ptr (block_of a.1.0) (count_of a.1.0))))) (fact 𝓤 (unless (any_null
+    ((block_ptr (block_of a.0) (count_of a.0)) ∷ (block_ptr (block_of a.1.0) (count_of a.1.0)) ∷ [])) ((left ≡
+    (lent.0, lent.1)) × (r ≡ null_reply)) (Closing lent.0 lent.1 left.0 left.1 r))))
     (ws.0, ws.1.0) $ says ! (λ t. absurd t, λ _. done_so) $ done !))))))))))))))

@@ -7,12 +7,9 @@ use Rattle.firmware_c.proofs.starting.start_in.Goals as goal
 -- what was taken out of the places is what stood there, and what start gives back stands there now
 pub returns : goal.returns
 returns c =
-    subst (λ (p : RunPlace Cells). started c.args.run.now c.args.rule.now p c.start-next.result.rule
-    c.start-next.result.reply)
+    subst (λ (p : RunPlace Cells). started c.args.run.now c.args.rule.now p c.start-next.result.rule c.start-next.result.reply)
     (sym c.replace-3.ensures.after)
-    (subst (λ (p : RunPlace Cells). started p c.args.rule.now c.start-next.result.run c.start-next.result.rule
-    c.start-next.result.reply)
+    (subst (λ (p : RunPlace Cells). started p c.args.rule.now c.start-next.result.run c.start-next.result.rule c.start-next.result.reply)
     c.replace.ensures.value
-    (subst (λ (rule : Received). started c.replace.result rule c.start-next.result.run c.start-next.result.rule
-    c.start-next.result.reply)
+    (subst (λ (rule : Received). started c.replace.result rule c.start-next.result.run c.start-next.result.rule c.start-next.result.reply)
     c.replace-2.ensures.value c.start-next.ensures))
