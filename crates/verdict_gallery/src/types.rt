@@ -75,6 +75,7 @@ fn of_text(rt: &HostRuntime, text: &[u8]) -> io::Result<()> {
         Err(refused) => {
             let file = TextFile {
                 name: "rule.fun",
+                whole: text,
                 text,
             };
             println!(rt; "{}", refused.in_text(heap, file)?)
