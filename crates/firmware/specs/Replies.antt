@@ -1,13 +1,19 @@
 -- What a call replies, in plain numbers.
-use Rattle.std.specs.Prelude.{◌≡◌, ◌++◌, ℕ, List, length, take, drop, Ok, Err, Result}
+use Rattle.std.specs.Prelude.{◌≡◌, ◌++◌, ℕ, List, length, take, drop, Ok, Err, Result, IfOk, IfErr, OnErr}
+use Rattle.syntax.specs.Buffers.{OnlyFront}
 use Rattle.grammar.specs.Token.{Name}
+use Rattle.grammar.specs.Verdict as text
+use Rattle.grammar.specs.Verdict.{Verdict}
 use Rattle.book.specs.declared.fault.NameFault.{NameFault}
 use Rattle.book.specs.Books.{Added}
 use Rattle.text.specs.declared.fault.CompileFault.{CompileFault}
-use Rattle.text.specs.Compiling.{Compiled}
+use Rattle.text.specs.Faults.{number, place}
 use Rattle.record.specs.declared.received.Received.{Received}
 use Rattle.typing.specs.declared.fault.AcceptFault.{AcceptFault}
-use Rattle.typing.specs.Accepting.{Accepted}
+use Rattle.typing.specs.Accepting.{Accepts, Wiped}
+use Rattle.typing.specs.Faults as typing
+use Rattle.typing.specs.Judging as judging
+use Rattle.typing.specs.Judging.{Judgement}
 use Rattle.run.specs.declared.fault.RunFault.{RunFault}
 use Rattle.trial.specs.declared.fault.Layer.{Layer}
 use Rattle.trial.specs.declared.fault.Layer.TheVariants as layer
@@ -56,6 +62,17 @@ abbrev pub accept_reply : Result ℕ AcceptFault → Reply
 accept_reply (Ok n) = done n
 accept_reply (Err f) = refused (Rule f)
 
+-- what accept answers, and what it leaves of the rule, the type buffer and the work tables
+pub record Accepted (s first second types : List ℕ) (rule : Received) (first' second' types' : List ℕ) (rule' : Received)
+    (answer : Result ℕ AcceptFault) : Type 0 where
+  pub ok : IfOk answer (λ n. Accepts s (length first) (length second) (length types) (take n types') rule')
+  pub err :
+      IfErr answer (λ f. Judgement s (length first) (length second) (length types)
+      (judging.refused (typing.number_of f) (typing.place_of f)))
+  pub kept : OnErr answer (rule' ≡ rule)
+  pub front : OnlyFront types types' answer
+  pub tables : Wiped s answer first first' × Wiped s answer second second'
+
 -- the record was accepted or refused, the buffers and the rule are as accept leaves them, and the reply says so
 abbrev pub AcceptReplied : List ℕ → List ℕ → List ℕ → List ℕ → Received → List ℕ → List ℕ → List ℕ → Received → Reply → Type 0
 AcceptReplied s first second types rule first' second' types' rule' reply =
@@ -77,6 +94,12 @@ NameReplied names names' name reply =
 abbrev pub compile_reply : Result ℕ CompileFault → Reply
 compile_reply (Ok n) = done n
 compile_reply (Err f) = refused (Text f)
+
+-- what compile answers, and what it leaves of the buffer
+pub record Compiled (s : List ℕ) (names : List Name) (before after : List ℕ) (answer : Result ℕ CompileFault) : Type 0 where
+  pub ok : IfOk answer (λ n. Verdict names s (length before) (text.compiled (take n after)))
+  pub err : IfErr answer (λ f. Verdict names s (length before) (text.refused (number f) (place f)))
+  pub front : OnlyFront before after answer
 
 -- the text was compiled or refused, the buffer is as compile leaves it, and the reply says so
 abbrev pub CompileReplied : List ℕ → List Name → List ℕ → List ℕ → Reply → Type 0
