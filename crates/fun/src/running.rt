@@ -49,7 +49,12 @@ impl Plan {
 pub(crate) fn run(shell: Shell, attempt: &Attempt) -> Result<Answer, Failure> {
     let heap = shell.heap();
     let bytes = source::read(shell.rt, attempt.file, RULE)?;
-    let prepared = prepared(shell, attempt, bytes.as_slice())?;
+    let prepared = prepared(
+        shell,
+        attempt.file,
+        attempt.names.as_slice(),
+        bytes.as_slice(),
+    )?;
     let text = prepared.rule();
     let record = record_of(shell, text)?;
     let accepted = || rule_of(shell, text.file(), record.as_slice());
@@ -74,14 +79,14 @@ pub(crate) fn run(shell: Shell, attempt: &Attempt) -> Result<Answer, Failure> {
 /// The text with its names. Where the file names its readings, the call may give them in any order.
 pub(crate) fn prepared<'a>(
     shell: Shell,
-    attempt: &Attempt<'a>,
+    file: &'a str,
+    names: &[&'a str],
     bytes: &'a [u8],
 ) -> Result<Prepared<'a>, Failure> {
-    let called: &[&'a str] = match Headed::of(bytes).names {
-        Some(_) => &[],
-        None => attempt.names.as_slice(),
-    };
-    Prepared::new(shell, attempt.file, bytes, called, MOST_RECORD)
+    match Headed::of(bytes).names {
+        Some(_) => Prepared::new(shell, file, bytes, &[], MOST_RECORD),
+        None => Prepared::new(shell, file, bytes, names, MOST_RECORD),
+    }
 }
 
 /// The steps of a call, as slots.

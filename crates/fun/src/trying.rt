@@ -30,7 +30,12 @@ use verdicts::words::in_words;
 pub(crate) fn try_out(shell: Shell, attempt: &Attempt) -> Result<Answer, Failure> {
     let heap = shell.heap();
     let bytes = source::read(shell.rt, attempt.file, RULE)?;
-    let prepared = prepared(shell, attempt, bytes.as_slice())?;
+    let prepared = prepared(
+        shell,
+        attempt.file,
+        attempt.names.as_slice(),
+        bytes.as_slice(),
+    )?;
     let lent = Lent {
         text: prepared.rule(),
         readings: attempt.readings(heap, prepared.origin.names.as_slice())?,
