@@ -55,19 +55,21 @@ pub(crate) fn run(shell: Shell, attempt: &Attempt) -> Result<Answer, Failure> {
         attempt.names.as_slice(),
         bytes.as_slice(),
     )?;
-    let text = prepared.rule();
-    let record = record_of(shell, text)?;
-    let accepted = || rule_of(shell, text.file(), record.as_slice());
-    let rule = accepted()?;
-    let unused = unused_readings(heap, &rule)?;
     let plan = Plan {
         readings: attempt.readings(heap, prepared.origin.names.as_slice())?,
         slots: slots_of(heap, attempt)?,
     };
+    let text = prepared.rule();
+    let record = record_of(shell, text)?;
+    let rule = rule_of(shell, text.file(), record.as_slice())?;
+    let unused = unused_readings(heap, &rule)?;
     let told = match attempt.stores {
         Stores::Linked => over_linked(shell, attempt, plan, rule)?,
         Stores::Flat => over_flat(shell, attempt, plan, rule)?,
-        Stores::Both => over_both(shell, attempt, &plan, rule, accepted()?)?,
+        Stores::Both => {
+            let other = rule_of(shell, text.file(), record.as_slice())?;
+            over_both(shell, attempt, &plan, rule, other)?
+        }
     };
     let mut answer = Answer::plain(heap, told);
     if !shell.json {
