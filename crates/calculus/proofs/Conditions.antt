@@ -11,7 +11,7 @@ use Rattle.syntax.specs.Tree.{Tree, number, truth, variable, function, applicati
 use Rattle.syntax.specs.Tree.{nodes}
 use Rattle.calculus.specs.Term.{numbered}
 use Rattle.calculus.specs.Types.{Ty, int, bool, ◌⇒◌, Has, RuleHas}
-use Rattle.calculus.specs.Conditions.{Assignment, Met, Meets}
+use Rattle.calculus.specs.Conditions.{Assignment, Met, Meets, CannotMeet}
 use Rattle.calculus.specs.General.{ComesFrom, MostGeneral}
 use Rattle.calculus.specs.Laws.{TypedByConditions}
 
@@ -155,6 +155,10 @@ met_up_to a Γ k l i (if_else c t e) h m = (
   met_up_to a Γ k l (i + (1 + nodes c)) t (λ n p q. h n (omega arith) q) m.2,
   met_up_to a Γ k l (i + (1 + (nodes c + nodes t))) e (λ n p q. h n (omega arith) q) m.3,
 )
+
+-- what cannot be met up to node k cannot be met further
+pub cannot_meet_further : (r : ℕ) (t : Tree) (k l : ℕ) → k ≤ l → CannotMeet r t k → CannotMeet r t l
+cannot_meet_further r t k l h c a m = c a (met_up_to a (replicate r int) k l 0 t (λ n p q. omega arith) m)
 
 -- conditions see only the nodes of their tree
 
