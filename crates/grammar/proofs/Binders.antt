@@ -1,13 +1,14 @@
 -- `fun`, `let` and `if`, part by part.
-use Rattle.std.proofs.Common.{◌≡◌, ℕ, true, cond, List, [], ◌∷◌, refl, ap, ◌∙◌}
+use Rattle.std.proofs.Common.{◌≡◌, ℕ, true, cond, List, [], ◌∷◌, sym, refl, ap, ◌∙◌, true≢false}
 use Rattle.grammar.specs.declared.Mark.{Mark}
 use Rattle.grammar.specs.declared.Mark.TheVariants.{Fun, Let, In, If, Then, Else, Arrow, Equals}
 use Rattle.grammar.specs.Token.{Name, Token, mark, name, numeral, end, is}
 use Rattle.grammar.specs.Grammar.{Expr, lambda, let_in, if_else}
+use Rattle.grammar.specs.Reading.{part}
 use Rattle.grammar.specs.Automaton.{Frame, fun_body, let_bound, let_body, condition, then_branch, else_branch, State}
 use Rattle.grammar.specs.Automaton.{fun_name, fun_arrow, let_name, let_equals, go, stuck, is_end, start, at_binder}
 use Rattle.grammar.specs.Automaton.{step, in_force}
-use Rattle.grammar.specs.Walking.{Stand, Went, Unread, Missed, is_name}
+use Rattle.grammar.specs.Walking.{Stand, Current, Went, Unread, Missed, is_name}
 use Rattle.grammar.specs.Classes.{ReadExpr, RefusedExpr}
 use Rattle.grammar.proofs.Walking.{mark_on, name_on}
 use Rattle.grammar.proofs.Classes.{Partly, partly_here, partly_over, partly_asked, partly_missed, partly_unread}
@@ -25,6 +26,17 @@ binder_step f (mark m) = refl
 binder_step f (name x) = refl
 binder_step f (numeral z) = refl
 binder_step f end = refl
+
+named_token : (t : Token) → is_name t ≡ true → t ≡ name (name_of t)
+named_token (mark m) h = absurd (true≢false (sym h))
+named_token (name x) h = refl
+named_token (numeral z) h = absurd (true≢false (sym h))
+named_token end h = absurd (true≢false (sym h))
+
+-- they are its part of the text
+pub name_part : (s : List ℕ) (p : Stand) → Current s p → is_name p.token ≡ true
+    → name_of p.token ≡ part s p.place p.stop
+name_part s p c h = c.named (name_of p.token) (named_token p.token h)
 
 module _ (book names : List Name) (s : List ℕ) where
   -- `fun` or `let`, up to the name

@@ -255,6 +255,10 @@ module _ (book : List Name) where
           (operand cl sl (some e) k) _ (x.1 cl sl k h) (y.2 cl sl (some e) k h),
     )
 
+    pub app_first_refused : (p : Stand) (n place : ℕ) → RefusedAtom book names s p n place
+        → RefusedApp book names s p n place
+    app_first_refused p n place x cl sl k h y = x cl sl none k h y
+
     pub app_more_refused : (p q : Stand) (e : Expr) (n place : ℕ) → ReadApp book names s p q e
         → starts_atom q.token ≡ true → RefusedAtom book names s q n place → RefusedApp book names s p n place
     app_more_refused p q e n place x a y cl sl k h z = reached_refuses book s p q (operand cl sl none k)
@@ -264,6 +268,10 @@ module _ (book : List Name) where
 
     pub sum_first : (p q : Stand) (e : Expr) → ReadApp book names s p q e → ReadSum book names s p q e
     sum_first p q e x = (x.0, λ cl k h. (none, e, x.1 cl none k h, refl))
+
+    pub sum_first_refused : (p : Stand) (n place : ℕ) → RefusedApp book names s p n place
+        → RefusedSum book names s p n place
+    sum_first_refused p n place x cl k h y = x cl none k h y
 
     -- over a sum and the `+` behind it
     plus_step : (q : Stand) (cl sl : Option Expr) (f e : Expr) (k : List Frame) → q.token ≡ mark Plus
@@ -318,6 +326,10 @@ module _ (book : List Name) where
       ),
     )
 
+    pub cmp_sum_refused : (p : Stand) (n place : ℕ) → RefusedSum book names s p n place
+        → RefusedCmp book names s p n place
+    cmp_sum_refused p n place x k h y = x none k h y
+
     at_most_step : (q : Stand) (sl : Option Expr) (f e : Expr) (k : List Frame) → q.token ≡ mark AtMost
         → summed sl f ≡ e → step in_force book (operand none sl (some f) k) q.token ≡ go (operand (some e) none none k)
     at_most_step q sl f e k t h = ap (step in_force book (operand none sl (some f) k)) t
@@ -359,6 +371,10 @@ module _ (book : List Name) where
         (y (some e) k h (expects_begun (some e) none k r.token tt))
 
     -- ── expressions ──
+
+    pub expr_cmp_refused : (p : Stand) (n place : ℕ) → is Fun p.token ≡ false → is Let p.token ≡ false
+        → is If p.token ≡ false → RefusedCmp book names s p n place → RefusedExpr book names s p n place
+    expr_cmp_refused p n place a b c x k h = x k h (expects_start k p.token a b c)
 
     -- what has been gone over of an expression, up to a stand: the state there, whatever is open
     abbrev pub Partly : Stand → Stand → (List Frame → State) → Type 0

@@ -220,6 +220,10 @@ module _ (book : List Name) (ts : List Token) where
     t.1,
   )
 
+  -- and what begins one so is gone over
+  pub begun : BeginsBound book ts → Goes (run in_force book (start []) ts)
+  begun h = sentence_begun in_force book ts h.0 h.1 h.3 (has_fits book book h.1 (ap has h.4))
+
   -- where the automaton is stuck, no sentence goes on
   pub stuck_begins : (s : State) (t : Token) → run in_force book (start []) ts ≡ go s → step in_force book s t ≡ stuck
       → Begins (ts ++ t ∷ []) → ⊥

@@ -1,12 +1,12 @@
 -- What a lexer finds byte by byte, as the longest token.
-use Rattle.std.proofs.Common.{◌≡◌, ℕ, zero, suc, ◌+◌, ◌-◌, ◌<◌, ◌≤◌, Bool, true, false, ◌&&◌, ◌⊎◌, List, [], ◌∷◌}
+use Rattle.std.proofs.Common.{◌≡◌, ℕ, zero, suc, ◌+◌, ◌-◌, ◌<◌, ◌≤◌, Bool, true, false, ◌&&◌, eqb, ◌⊎◌, List, [], ◌∷◌}
 use Rattle.std.proofs.Common.{length, get_or, take, drop, pos, neg_ℤ, sym, refl, ap, ◌∙◌, subst, inl, inr, ⊎_elim}
 use Rattle.std.proofs.Common.{add-one, arith, drop-cons, ne_eqb}
 use mathlib.Core.Option.{some, none}
 use Rattle.std.proofs.lemmas.Bool.Decides.{nat_tests}
 use Rattle.std.proofs.str.Laws.{order}
 use Rattle.grammar.specs.Token.{Token, numeral}
-use Rattle.grammar.specs.Spelling.{letter, digit, word_byte, all, decimal, word, token}
+use Rattle.grammar.specs.Spelling.{letter, digit, word_byte, all, decimal, word, sign, token}
 use Rattle.grammar.specs.Reading.{part, NoneBeyond, Longest}
 
 and_true : (a b : Bool) → a ≡ true → b ≡ true → a && b ≡ true
@@ -26,6 +26,11 @@ digit_bounds c h = grind (arith, nat_tests)
 
 digit_no_letter : (c : ℕ) → digit c ≡ true → letter c ≡ false
 digit_no_letter c h = grind (arith, nat_tests)
+
+-- a byte that begins no sign
+pub sign_none : (c : ℕ) (cs : List ℕ) → eqb c 45 ≡ false → eqb c 61 ≡ false → eqb c 60 ≡ false → eqb c 43 ≡ false
+    → eqb c 40 ≡ false → eqb c 41 ≡ false → sign (c ∷ cs) ≡ none
+sign_none c cs a b d e f g = rw (a, b, d, e, f, g)
 
 token_word : (c : ℕ) (cs : List ℕ) → letter c ≡ true → all word_byte cs ≡ true → token (c ∷ cs) ≡ some (word (c ∷ cs))
 token_word c cs l w = rw (l, w)
