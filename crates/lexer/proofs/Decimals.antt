@@ -1,7 +1,12 @@
 -- What digits come to, up to a limit.
-use Rattle.std.proofs.Common.{◌≡◌, ℕ, ◌+◌, ◌-◌, ◌*◌, ◌<◌, ◌≤◌, min, List, [], ◌∷◌, fold, ap, ◌∙◌, ⊎_elim, arith}
+use Rattle.std.proofs.Common.{◌≡◌, ℕ, zero, suc, ◌+◌, ◌-◌, ◌*◌, ◌<◌, ◌≤◌, min, List, [], ◌∷◌, length, get_or, drop}
+use Rattle.std.proofs.Common.{fold, ℤ, pos, negsuc, neg_ℤ, Some, None, Option, sym, ap, ◌∙◌, subst, ⊎_elim}
+use Rattle.std.proofs.Common.{true≢false, arith}
 use Rattle.std.proofs.str.Laws.{order}
+use Rattle.std.proofs.lemmas.Bool.Decides.{nat_tests}
 use Rattle.grammar.specs.Spelling.{decimal}
+use Rattle.lexer.specs.Amounts.{Amount}
+use Rattle.lexer.specs.Shown.{value}
 
 -- more before the digits is more in all
 pub decimal-≤ : (cs : List ℕ) (m n : ℕ) → m ≤ n → decimal m cs ≤ decimal n cs
@@ -32,3 +37,27 @@ fold_min (c ∷ cs) n h =
     let new : one_more n c ≡ min more 4294967295 = omega arith in
     fold_min cs (one_more n c) (omega arith) ∙ ap (λ k. min (decimal k cs) 4294967295) new
     ∙ decimal_min cs more 4294967295
+
+-- ── the number of a token from its magnitude ──
+
+past : (d : ℕ) → d < 4294967295 → min d 4294967295 ≡ d
+past d h = omega arith
+
+-- behind a minus, past the limit it does not matter how far past
+pub amount_capped : (d : ℕ) (r : Option ℤ) → Amount (neg_ℤ (pos (min d 4294967295))) r → Amount (neg_ℤ (pos d)) r
+amount_capped d r h =
+    ⊎_elim
+    (λ (lt : d < 4294967295). subst (λ n. Amount (neg_ℤ (pos n)) r) (past d lt) h)
+    (λ (le : 4294967295 ≤ d). let e : min d 4294967295 ≡ 4294967295 = omega arith in
+    far d r le (subst (λ n. Amount (neg_ℤ (pos n)) r) e h))
+    (order d 4294967295)
+  where
+    far : (d : ℕ) (r : Option ℤ) → 4294967295 ≤ d → Amount (negsuc 4294967294) r → Amount (neg_ℤ (pos d)) r
+    far zero r le h = absurd (omega arith)
+    far (suc d) (Some k) le h = absurd (true≢false (sym h.0))
+    far (suc d) None le h = grind (arith, nat_tests)
+
+-- bytes that begin with a minus come to the negative of the rest
+pub value_of_minus : (w : List ℕ) → 0 < length w → get_or w 0 0 ≡ 45 → value w ≡ neg_ℤ (pos (decimal 0 (drop 1 w)))
+value_of_minus [] h e = absurd (omega arith)
+value_of_minus (c ∷ cs) h e = rw e
