@@ -1,14 +1,17 @@
 -- What a look never answers, and what the contract of a store becomes where readings stand behind every list.
-use Rattle.std.proofs.Common.{◌≡◌, ℕ, ◌+◌, ◌-◌, ◌<◌, ◌≤◌, List, ◌∷◌, ◌++◌, length, get_or, Some, None, Ok, Err}
-use Rattle.std.proofs.Common.{Option, Result, sym, refl, ap, ◌∙◌, ⊎_elim, arith, length-append}
-use Rattle.std.proofs.lemmas.List.{get_or_append_left, get_or-append_right}
+use Rattle.std.proofs.Common.{◌≡◌, ℕ, ◌+◌, ◌-◌, ◌<◌, ◌≤◌, min, List, ◌∷◌, ◌++◌, length, get_or, take, ℤ, pos}
+use Rattle.std.proofs.Common.{Some, None, Ok, Err, Option, Result, sym, refl, ap, ◌∙◌, ⊎_elim, arith}
+use Rattle.std.proofs.Common.{length-append, length-take, get_or-take}
+use lib.ListN.{get_or-map}
+use Rattle.std.proofs.lemmas.List.{get_or_append_left, get_or-append_right, get_or_default, length-map}
 use Rattle.std.proofs.lemmas.Bool.{cases_lt}
 use Rattle.store.specs.declared.fault.StoreFault.{StoreFault}
 use Rattle.store.specs.declared.fault.StoreFault.TheVariants.{NoList, NoRoom, Beyond}
 use Rattle.store.specs.Lists.{Lists, Extended, Looked}
 use Rattle.store.proofs.Told.{some_none, some_some, ok_err, cases_option}
 use Rattle.values.specs.declared.Value.{Value}
-use Rattle.readings.specs.Behind.{added, behind, cost_below, Read}
+use Rattle.values.specs.declared.Value.TheVariants.{Number}
+use Rattle.readings.specs.Behind.{as_values, added, behind, cost_below, Read}
 
 -- look: it takes no room
 pub look_has_room : {E : Type 0} (lists : Lists E) (h i : ℕ) → Looked lists h i (Err NoRoom) → ⊥
@@ -142,3 +145,33 @@ module _ (rs : List Value) where
               );
         };
   }
+
+-- A reading, out of the numbers that are held.
+module _ (numbers : List ℤ) (count n i : ℕ) where
+  length_known : length (as_values (take count numbers)) ≡ min count (length numbers)
+  length_known = simp (length-map, length-take)
+
+  pub read_number : (z : ℤ) → n ≤ i → i - n < min count (length numbers) → z ≡ get_or numbers (i - n) (pos 0)
+      → Read (as_values (take count numbers)) n i (Ok (Number z))
+  read_number z past near is =
+      let long = length_known in
+      let early : i - n < count = omega arith in
+      let inside : i - n < length numbers = omega arith in
+      let at : get_or (as_values (take count numbers)) (i - n) (Number z) ≡ Number z =
+      get_or-map Number (take count numbers) (i - n) z
+      ∙ ap Number (get_or-take count numbers (i - n) z early ∙ get_or_default numbers (i - n) z (pos 0) inside
+      ∙ sym is) in
+      record {
+        beyond = λ far. absurd (omega arith);
+        found = λ _. (Number z, refl, sym at);
+      }
+
+  pub read_beyond : (known : ℕ) → known ≡ min count (length numbers) → n ≤ i → known ≤ i - n
+      → Read (as_values (take count numbers)) n i (Err (Beyond (n + known)))
+  read_beyond known is past far =
+      let long = length_known in
+      let same : n + known ≡ n + length (as_values (take count numbers)) = omega arith in
+      record {
+        beyond = λ _. ap (λ k. Err (Beyond k)) same;
+        found = λ near. absurd (omega arith);
+      }
