@@ -1,6 +1,8 @@
 -- What stays known from one call of the parser to the next.
-use Rattle.std.proofs.Common.{◌≡◌, ℕ, ◌<◌, ◌≤◌, false, List, length, min, Ok, ap, subst, arith}
-use Rattle.grammar.specs.Automaton.{is_end}
+use Rattle.std.proofs.Common.{◌≡◌, ℕ, ◌<◌, ◌≤◌, true, false, List, length, min, Ok, sym, refl, ap, subst, true≢false}
+use Rattle.std.proofs.Common.{arith}
+use Rattle.grammar.specs.Automaton.{is_end, starts_atom}
+use Rattle.grammar.specs.Token.{Token, mark, name, numeral, end}
 use Rattle.grammar.specs.Walking.{Stand, Current, Went, Through}
 use Rattle.grammar.specs.Reading.{Next}
 use Rattle.lexer.specs.Shown.{shown, Lexes}
@@ -31,3 +33,16 @@ module _ (src : Source) (p : Parser) (own : source p ≡ src) where
   -- the place lies in the text
   pub lies : (length p.text.now ≡ length src.text) × (p.current.place ≤ length src.text)
   lies = let e = ap (λ k. length k.text) own in (e, omega (arith, e, p.in_hand.forward, p.in_hand.inside))
+
+-- ── tokens that are not the end ──
+
+pub atom_on : (t : Token) → starts_atom t ≡ true → is_end t ≡ false
+atom_on (mark n) h = refl
+atom_on (name x) h = refl
+atom_on (numeral z) h = refl
+atom_on end h = absurd (true≢false (sym h))
+
+-- an atom that is there takes at least a byte
+pub atom_further : (p q : Parser) → starts_atom (at p).token ≡ true → p.current.stop ≤ q.current.place
+    → p.current.place < q.current.place
+atom_further p q h le = omega (arith, p.in_hand.some_bytes (atom_on (at p).token h), le)

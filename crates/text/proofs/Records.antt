@@ -1,9 +1,9 @@
 -- From a tree in the table to the verdict on the text.
 use Rattle.std.specs.Prelude.{IfOk, IfErr}
-use Rattle.std.proofs.Common.{◌≡◌, ℕ, ◌<◌, ◌≤◌, List, [], ◌++◌, length, take, drop, map, reverse, Ok, Err, Result}
-use Rattle.std.proofs.Common.{sym, refl, true, ap, subst, ⊎_elim, arith}
+use Rattle.std.proofs.Common.{◌≡◌, ℕ, ◌+◌, ◌%◌, ◌<◌, ◌≤◌, List, [], ◌∷◌, ◌++◌, length, take, drop, map, reverse, Ok}
+use Rattle.std.proofs.Common.{Err, Result, sym, refl, true, ap, ◌∙◌, subst, ⊎_elim, arith}
 use Rattle.syntax.specs.Tree.{Tree, nodes}
-use Rattle.syntax.specs.Record.{record_of}
+use Rattle.syntax.specs.Record.{encode, two_bytes, record_of}
 use Rattle.syntax.specs.Buffers.{OnlyFront}
 use Rattle.syntax.proofs.Buffers.{front_is, only_front}
 use Rattle.grammar.specs.Token.{Name}
@@ -23,6 +23,7 @@ use Rattle.grammar.proofs.Verdicts.{means}
 use Rattle.text.specs.Parsing.{source, at, nowhere, Began, ReadsExpr}
 use Rattle.text.specs.declared.parser.Parser.{Parser}
 use Rattle.text.specs.Scopes.{open_names}
+use Rattle.text.specs.Writing.{written}
 
 -- a table that began empty
 pub grown_held : (t₀ table : Table) (t : Tree) (root : ℕ) → (t₀.nodes.items ≡ []) × (t₀.bytes ≡ 0)
@@ -36,6 +37,21 @@ grown_held t₀ table t root z g = record {
 
 pub none_open : (scope : Scope) → scope.names.items ≡ [] → open_names scope ≡ []
 none_open scope e = ap (λ l. map (λ n. n.now) (reverse l)) e
+
+-- a record is four bytes longer than its tree
+pub record_length : (readings : ℕ) (t : Tree) → length (record_of readings t) ≡ 4 + length (encode t)
+record_length readings t = omega arith
+
+-- the bytes that were written are the record
+pub record_bytes : (readings n : ℕ) (t : Tree) (out : List ℕ) → readings ≤ 8 → n ≡ length (encode t)
+    → written out 0 (((two_bytes (2 + n) ++ 1 ∷ []) ++ (readings % 256) ∷ []) ++ encode t)
+    ≡ record_of readings t ++ drop (4 + n) out
+record_bytes readings n t out few e =
+    let same : readings % 256 ≡ readings = omega arith in
+    let all : 0 + length (record_of readings t) ≡ 4 + n = omega (arith, e) in
+    ap (λ m. written out 0 (((two_bytes (2 + m) ++ 1 ∷ []) ++ (readings % 256) ∷ []) ++ encode t)) e
+    ∙ ap (λ k. written out 0 (((two_bytes (2 + length (encode t)) ++ 1 ∷ []) ++ k ∷ []) ++ encode t)) same
+    ∙ ap (λ m. record_of readings t ++ drop m out) all
 
 -- The verdict on the text, with its number and place. A record stands at the front of the buffer, and behind it what
 -- was
