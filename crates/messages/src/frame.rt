@@ -32,14 +32,14 @@ pub struct Message<'a> {
     // A trait over the faults, with an impl for each, would only carry this number from where `number` tells it.
     number: u8,
     subject: Subject<'a>,
-    reason: Reason,
+    reason: Reason<'a>,
 }
 
 impl<'a> Message<'a> {
     /// A message about something that has no line to show.
-    pub fn about(number: u8, subject: CowStr<'a>, reason: Reason) -> Message<'a>
+    pub fn about(number: u8, subject: CowStr<'a>, reason: Reason<'a>) -> Message<'a>
         ensures number { result.number ≡ number }
-        ensures title { result.reason.title.now ≡ reason.title.now }
+        ensures title { result.reason.title.now ≡ reason.entry.title.now }
     {
         let subject = Subject::Whole(subject);
         Message {
@@ -55,10 +55,10 @@ impl<'a> Message<'a> {
         number: u8,
         file: TextFile<'a>,
         span: Span,
-        reason: Reason,
+        reason: Reason<'a>,
     ) -> Result<Message<'a>, AllocError>
         ensures number { IfOk result (λ message. message.number ≡ number) }
-        ensures title { IfOk result (λ message. message.reason.title.now ≡ reason.title.now) }
+        ensures title { IfOk result (λ message. message.reason.title.now ≡ reason.entry.title.now) }
     {
         let subject = Subject::Part(Snippet::of(heap, file, span)?);
         Ok(Message {
@@ -69,9 +69,9 @@ impl<'a> Message<'a> {
     }
 }
 
-impl Message<'_> {
+impl<'a> Message<'a> {
     /// What is wrong, why, and what to write instead.
-    pub fn reason(&self) -> &Reason {
+    pub fn reason(&self) -> &Reason<'a> {
         &self.reason
     }
 

@@ -4,19 +4,19 @@ ghost use Rattle.std.specs.Prelude.{◌≡◌};
 use std::borrow::CowStr;
 
 #[derive(Drop)]
-pub struct Reason {
-    pub title: &'static str,
-    pub why: CowStr<'static>,
-    pub help: CowStr<'static>,
+pub struct Reason<'a> {
+    pub title: &'a str,
+    pub why: CowStr<'a>,
+    pub help: CowStr<'a>,
 }
 
-impl Reason {
+impl<'a> Reason<'a> {
     /// A reason of parts that are known beforehand or were written for the case.
     pub fn new(
-        title: &'static str,
-        why: impl Into<CowStr<'static>>,
-        help: impl Into<CowStr<'static>>,
-    ) -> Reason
+        title: &'a str,
+        why: impl Into<CowStr<'a>>,
+        help: impl Into<CowStr<'a>>,
+    ) -> Reason<'a>
         ensures { result.title.now ≡ title.now }
     {
         Reason {

@@ -17,7 +17,11 @@ use text::fault::CompileFault;
 
 impl RuleText<'_, '_> {
     /// The reason for a refusal.
-    pub(crate) fn reason(&self, heap: Global, fault: CompileFault) -> Result<Reason, AllocError> {
+    pub(crate) fn reason(
+        &self,
+        heap: Global,
+        fault: CompileFault,
+    ) -> Result<Reason<'static>, AllocError> {
         match fault {
             CompileFault::TooLong => self.too_long(heap),
             CompileFault::Lex(LexFault::NoToken(place)) => Ok(self.no_token(place)),
@@ -29,15 +33,19 @@ impl RuleText<'_, '_> {
         }
     }
 
-    fn too_long(&self, heap: Global) -> Result<Reason, AllocError> {
+    fn too_long(&self, heap: Global) -> Result<Reason<'static>, AllocError> {
         let length = self.text.len();
-        let more = if length < MOST_READ { "" } else { " or more" };
+        let more = if self.whole.len() < MOST_READ {
+            ""
+        } else {
+            " or more"
+        };
         let why = format!(in heap; "it has {length} bytes{more}, and a text may have {MOST_TEXT}")?;
         let help = "shorten names, drop blanks, or say a repeated part once by `let`";
         Ok(Reason::new("the text is too long", why, help))
     }
 
-    fn too_many_nodes(&self, heap: Global) -> Result<Reason, AllocError> {
+    fn too_many_nodes(&self, heap: Global) -> Result<Reason<'static>, AllocError> {
         let nodes = nodes_of_sentence(self.text);
         let why = format!(in heap; "its tree has {nodes} nodes, and a rule may have {MOST_NODES}")?;
         let help = "say a repeated part once by `let`, or make two rules of it";
@@ -45,7 +53,7 @@ impl RuleText<'_, '_> {
     }
 
     /// The record's size is found by writing it where there is room enough.
-    fn no_room(&self, heap: Global) -> Result<Reason, AllocError> {
+    fn no_room(&self, heap: Global) -> Result<Reason<'static>, AllocError> {
         let room = self.origin.room;
         let why = match self.record(heap, MOST_RECORD)? {
             Ok(record) => {
@@ -59,12 +67,12 @@ impl RuleText<'_, '_> {
     }
 
     /// Guesses from the bytes what was meant.
-    fn no_token(&self, place: usize) -> Reason {
+    fn no_token(&self, place: usize) -> Reason<'static> {
         let (why, help) = meant_by(self.text.get(place..).unwrap_or(&[]));
         Reason::new("no token begins here", why, help)
     }
 
-    fn unknown(&self, heap: Global, place: usize) -> Result<Reason, AllocError> {
+    fn unknown(&self, heap: Global, place: usize) -> Result<Reason<'static>, AllocError> {
         let why = "it names no reading, and no `fun` or `let` around it opens it";
         let help = self.help_for_unknown(heap, place)?;
         Ok(Reason::new("unknown name", why, help))
@@ -94,7 +102,7 @@ impl RuleText<'_, '_> {
     }
 
     /// Says what should have stood in the token's place, or what is not finished before it.
-    fn unexpected(&self, heap: Global, place: usize) -> Result<Reason, AllocError> {
+    fn unexpected(&self, heap: Global, place: usize) -> Result<Reason<'static>, AllocError> {
         let context = Context::at(heap, self.text, place)?;
         let why = match (context.last, context.keyword_for_name(), context.wanted()) {
             (None, _, _) => CowStr::from("a rule begins with an expression"),
@@ -133,7 +141,7 @@ impl RuleText<'_, '_> {
     }
 }
 
-fn out_of_range() -> Reason {
+fn out_of_range() -> Reason<'static> {
     Reason::new(
         "the number is out of range",
         "numbers run from -2147483648 to 2147483647",

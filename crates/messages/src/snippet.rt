@@ -63,10 +63,7 @@ impl<'a> Snippet<'a> {
             self.shown.push_str("...")?;
             self.carets.push_str("   ")?;
         }
-        for (at, cell) in cells(heap, line)?
-            .iter()
-            .filter(|(at, _)| seen.contains(at))
-        {
+        for (at, cell) in &cells(heap, line, &seen)? {
             let cell = cell.to_string(heap)?;
             self.shown.push_str(cell.as_str())?;
             if *at < marked.end {
@@ -138,16 +135,19 @@ fn seen_of(length: usize, place: usize) -> Range<usize> {
     from..from.saturating_add(MOST_SHOWN).min(length)
 }
 
-/// What is shown for each character, or for each byte where the line is not UTF-8, with its place in the line.
-fn cells(heap: Global, line: &[u8]) -> Result<Vec<(usize, Cell)>, AllocError> {
+/// What is shown for each character in sight, or for each byte where the line is not UTF-8, with its place in the line.
+/// A line may be as long as its file, and little of it is in sight.
+fn cells(heap: Global, line: &[u8], seen: &Range<usize>) -> Result<Vec<(usize, Cell)>, AllocError> {
     match std::str::from_utf8(line) {
         Ok(text) => text
             .char_indices()
+            .filter(|(at, _)| seen.contains(at))
             .map(|(at, character)| (at, Cell::Char(character)))
             .collect(heap),
         Err(_) => line
             .iter()
             .enumerate()
+            .filter(|(at, _)| seen.contains(at))
             .map(|(at, byte)| (at, Cell::from(*byte)))
             .collect(heap),
     }
