@@ -122,7 +122,7 @@ fn shown(shell: Shell, file: TextFile, record: &[u8]) -> Result<Answer, Failure>
 /// Writes a record to a file, which must not be the one that it was made from.
 fn written(shell: Shell, file: &str, out: &str, record: &[u8]) -> Result<Answer, Failure> {
     let heap = shell.heap();
-    if source::is_same(shell.rt, file, out) {
+    if file != STANDARD_INPUT && source::is_same(shell.rt, file, out) {
         return Err(Failure::wrong_call(
             heap,
             &format_args!("{out} is the rule's text: the record would be written over it"),

@@ -44,9 +44,10 @@ fn main(rt: HostRuntime) -> ExitCode {
     }
 }
 
-/// Prints an answer: first what stands beside it, which a pipe does not close.
+/// Prints an answer: first what stands beside it, which a pipe does not close. Where that cannot be printed, the answer
+/// still is.
 fn printed(rt: &HostRuntime, answer: &Answer) -> io::Result<()> {
-    rt.eprint(&answer.beside)?;
+    let _ = rt.eprint(&answer.beside);
     rt.print(&answer.out)
 }
 
@@ -66,9 +67,11 @@ fn ended(rt: &HostRuntime, printed: io::Result<()>, refused: bool) -> ExitCode {
 /// Tells why there is no answer. Where even that cannot be printed there is nobody left to tell.
 fn failed(rt: &HostRuntime, failure: &Failure) -> ExitCode {
     match failure {
+        // Help and version are answers.
+        Failure::Words(error) if !error.use_stderr() => ended(rt, error.print(rt), false),
         Failure::Words(error) => {
             let _ = error.print(rt);
-            ExitCode::from(if error.use_stderr() { WRONG_CALL } else { 0 })
+            ExitCode::from(WRONG_CALL)
         }
         Failure::WrongCall(why) => {
             let _ = eprintln!(rt; "error: {why}\n\nFor more information, try 'fun help'.");

@@ -30,6 +30,7 @@ pub(crate) fn program<'a>(heap: Global) -> Result<Command<'a>, AllocError> {
         .about(ABOUT)
         .after_help(STATUS)
         .subcommand_required(true)
+        .args_override_self(true)
         .arg(color)?
         .subcommand(run(heap)?)?
         .subcommand(trial(heap)?)?

@@ -20,8 +20,10 @@ pub(crate) fn fetch<'a>(rt: &HostRuntime, file: &'a str) -> Result<Found<'a>, Fa
     let bytes = source::read(rt, file, RECORD)?;
     let cut = bytes.len() >= MOST_READ;
     let name = shown_name(file);
+    // Where the file goes on behind what was read, nothing is known of the partner of a last digit; no record is so long.
     let is_text = !bytes.is_empty()
-        && bytes.iter().all(|byte| byte.is_ascii_graphic() || byte.is_ascii_whitespace());
+        && bytes.iter().all(|byte| byte.is_ascii_graphic() || byte.is_ascii_whitespace())
+        && !(cut && has_odd_digits(bytes.as_slice()));
     let (form, bytes) = if is_text {
         (
             Form::Hexadecimal,
@@ -36,6 +38,15 @@ pub(crate) fn fetch<'a>(rt: &HostRuntime, file: &'a str) -> Result<Found<'a>, Fa
     })
 }
 
+/// Whether a digit has no partner.
+fn has_odd_digits(text: &[u8]) -> bool {
+    text.iter()
+        .filter(|byte| !byte.is_ascii_whitespace())
+        .count()
+        % 2
+        == 1
+}
+
 /// The bytes that digits spell, blanks between them passed over.
 fn from_digits(heap: Global, name: &str, text: &[u8]) -> Result<Vec<u8>, Failure> {
     let digits: Vec<u8> = text
@@ -43,39 +54,51 @@ fn from_digits(heap: Global, name: &str, text: &[u8]) -> Result<Vec<u8>, Failure
         .copied()
         .filter(|byte| !byte.is_ascii_whitespace())
         .collect(heap)?;
+    if let Some(index) = digits.iter().position(|digit| !digit.is_ascii_hexdigit()) {
+        return Err(no_digit(heap, name, text, index));
+    }
     match hex::decode(heap, digits.as_slice()) {
         Ok(bytes) => Ok(bytes),
-        Err(FromHexError::InvalidHexCharacter { c, index }) => {
-            let (line, column) = position(text, index);
-            Err(Failure::told(
-                heap,
-                &format_args!(
-                    "error: `{c}` is no hexadecimal digit\n --> {name}:{line}:{column}\n  = help: a record in hexadecimal has the digits 0 to 9 and a to f; a rule's text is checked without --record\n"
-                ),
-            ))
-        }
         Err(FromHexError::OutOfMemory) => Err(Failure::NoMemory(AllocError)),
-        Err(_) => {
-            let (line, column) = position(text, digits.len().saturating_sub(1));
-            Err(Failure::told(
-                heap,
-                &format_args!(
-                    "error: the last hexadecimal digit has no partner\n --> {name}:{line}:{column}\n  = help: two digits make a byte, and {} digits are an odd count\n",
-                    digits.len()
-                ),
-            ))
-        }
+        Err(_) => Err(no_partner(heap, name, text, digits.len())),
     }
 }
 
-/// The line and the column, both from 1, of the digit with this index among those of a text.
-fn position(text: &[u8], index: usize) -> (usize, usize) {
-    let place = text
-        .iter()
+/// The failure for a character, by its index among those that are not blank, that is no digit.
+fn no_digit(heap: Global, name: &str, text: &[u8], index: usize) -> Failure {
+    let place = place_of(text, index);
+    let (line, column) = position(text, place);
+    let character = text.get(place).map_or(' ', |byte| char::from(*byte));
+    Failure::told(
+        heap,
+        &format_args!(
+            "error: `{character}` is no hexadecimal digit\n --> {name}:{line}:{column}\n  = help: a record in hexadecimal has the digits 0 to 9 and a to f; a rule's text is checked without --record\n"
+        ),
+    )
+}
+
+/// The failure for an odd count of digits.
+fn no_partner(heap: Global, name: &str, text: &[u8], count: usize) -> Failure {
+    let (line, column) = position(text, place_of(text, count.saturating_sub(1)));
+    Failure::told(
+        heap,
+        &format_args!(
+            "error: the last hexadecimal digit has no partner\n --> {name}:{line}:{column}\n  = help: two digits make a byte, and {count} digits are an odd count\n"
+        ),
+    )
+}
+
+/// The place of the character with this index among those of a text that are not blank.
+fn place_of(text: &[u8], index: usize) -> usize {
+    text.iter()
         .enumerate()
         .filter(|(_, byte)| !byte.is_ascii_whitespace())
         .nth(index)
-        .map_or(0, |(place, _)| place);
+        .map_or(0, |(place, _)| place)
+}
+
+/// The line and the column, both from 1, of a place of a text.
+fn position(text: &[u8], place: usize) -> (usize, usize) {
     let before = text.get(..place).unwrap_or(text);
     let line = before.iter().filter(|byte| **byte == b'\n').count();
     let from = before
