@@ -19,15 +19,18 @@ pub(crate) fn answer(heap: Global, mut fields: Fields) -> Result<String, Trouble
         &mut types,
         &mut Rule::new(),
     )?;
-    let entries = joined(heap, &types[..count])?;
-    Ok(format!(in heap; "ok {count} {entries}")?)
+    let mut told = format!(in heap; "ok {count} ")?;
+    tell_entries(&mut told, &types[..count])?;
+    Ok(told)
 }
 
-/// The entries of a type, joined by commas.
-pub(crate) fn joined(heap: Global, entries: &[u16]) -> Result<String, AllocError> {
-    let entries: Vec<String> = entries
-        .iter()
-        .map(|entry| entry.to_string(heap))
-        .try_collect(heap)?;
-    entries.join(heap, ",")
+/// Puts the entries of a type, joined by commas, behind what is told already: there may be millions.
+pub(crate) fn tell_entries(told: &mut String, entries: &[u16]) -> Result<(), AllocError> {
+    for (at, entry) in entries.iter().enumerate() {
+        if at > 0 {
+            told.push(',')?;
+        }
+        write!(told, "{entry}")?;
+    }
+    Ok(())
 }

@@ -54,16 +54,19 @@ fn answer_calls<S: Store<Elem = Value>>(
         return Ok(String::new(heap));
     };
     let mut handles = Vec::new(heap);
-    let mut answers = Vec::new(heap);
+    let mut told = String::new(heap);
     for call in calls.split(',') {
         let call = Call::read(call, handles.as_slice())?;
-        let told = match answer_call(store, &mut handles, call)? {
-            Ok(answer) => answer.to_string(heap)?,
-            Err(fault) => format!(in heap; "refused {}", fault.number())?,
-        };
-        answers.push(told)?;
+        let answer = answer_call(store, &mut handles, call)?;
+        if !told.is_empty() {
+            told.push_str("; ")?;
+        }
+        match answer {
+            Ok(answer) => write!(told, "{answer}")?,
+            Err(fault) => write!(told, "refused {}", fault.number())?,
+        }
     }
-    Ok(answers.join(heap, "; ")?)
+    Ok(told)
 }
 
 /// The answer to one call. The handles of `extend` are kept in their order until the next `clear`.

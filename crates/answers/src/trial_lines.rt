@@ -1,6 +1,6 @@
 //! Lines of the kind `trial`: `STORE SIZE NAMES OUT T1 T2 B STEPS READINGS TEXT`, as the kinds `run`, `compile` and
 //! `accept` have these fields; the readings are joined by colons.
-use crate::accept_lines::joined;
+use crate::accept_lines::tell_entries;
 use crate::compile_lines::book_of;
 use crate::fields::{Fields, bytes, given, number, numbers};
 use crate::memory::{Memory, OnStore};
@@ -86,9 +86,10 @@ impl OnStore for Line {
                     report,
                 },
             ) => {
-                let entries = joined(heap, &self.types[..entries])?;
-                let report = Reported(report);
-                Ok(format!(in heap; "ok {report} type={entries} free={free}")?)
+                let mut told = format!(in heap; "ok {} type=", Reported(report))?;
+                tell_entries(&mut told, &self.types[..entries])?;
+                write!(told, " free={free}")?;
+                Ok(told)
             }
             Err(fault) => {
                 let layer = Named(fault.layer());
