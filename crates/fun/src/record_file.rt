@@ -14,16 +14,14 @@ pub(crate) struct Found<'a> {
     pub(crate) from: RecordFile<'a>,
 }
 
-/// Fetches a record. A file of printed characters and blanks holds it in hexadecimal; every other file holds its bytes.
-/// The two are not mistaken: the third byte of a record is 1, which is not printed.
+/// Fetches a record. A file of printed characters, with blanks between them, holds it in hexadecimal; every other file
+/// holds its bytes. The two are not mistaken: the third byte of a record is 1, which is not printed.
 pub(crate) fn fetch<'a>(rt: &HostRuntime, file: &'a str) -> Result<Found<'a>, Failure> {
     let bytes = source::read(rt, file, RECORD)?;
     let cut = bytes.len() >= MOST_READ;
     let name = shown_name(file);
     // Where the file goes on behind what was read, nothing is known of the partner of a last digit; no record is so long.
-    let is_text = !bytes.is_empty()
-        && bytes.iter().all(|byte| byte.is_ascii_graphic() || byte.is_ascii_whitespace())
-        && !(cut && has_odd_digits(bytes.as_slice()));
+    let is_text = is_printed(bytes.as_slice()) && !(cut && has_odd_digits(bytes.as_slice()));
     let (form, bytes) = if is_text {
         (
             Form::Hexadecimal,
@@ -38,13 +36,22 @@ pub(crate) fn fetch<'a>(rt: &HostRuntime, file: &'a str) -> Result<Found<'a>, Fa
     })
 }
 
+/// Whether a byte may stand between digits: the blanks of the language alone.
+fn is_blank(byte: u8) -> bool {
+    matches!(byte, b' ' | b'\t' | b'\n' | b'\r')
+}
+
+/// Whether there are printed characters, and beside them blanks alone.
+fn is_printed(text: &[u8]) -> bool {
+    text.iter().any(|byte| byte.is_ascii_graphic())
+        && text
+            .iter()
+            .all(|byte| byte.is_ascii_graphic() || is_blank(*byte))
+}
+
 /// Whether a digit has no partner.
 fn has_odd_digits(text: &[u8]) -> bool {
-    text.iter()
-        .filter(|byte| !byte.is_ascii_whitespace())
-        .count()
-        % 2
-        == 1
+    text.iter().filter(|byte| !is_blank(**byte)).count() % 2 == 1
 }
 
 /// The bytes that digits spell, blanks between them passed over.
@@ -52,7 +59,7 @@ fn from_digits(heap: Global, name: &str, text: &[u8]) -> Result<Vec<u8>, Failure
     let digits: Vec<u8> = text
         .iter()
         .copied()
-        .filter(|byte| !byte.is_ascii_whitespace())
+        .filter(|byte| !is_blank(*byte))
         .collect(heap)?;
     if let Some(index) = digits.iter().position(|digit| !digit.is_ascii_hexdigit()) {
         return Err(no_digit(heap, name, text, index));
@@ -92,7 +99,7 @@ fn no_partner(heap: Global, name: &str, text: &[u8], count: usize) -> Failure {
 fn place_of(text: &[u8], index: usize) -> usize {
     text.iter()
         .enumerate()
-        .filter(|(_, byte)| !byte.is_ascii_whitespace())
+        .filter(|(_, byte)| !is_blank(**byte))
         .nth(index)
         .map_or(0, |(place, _)| place)
 }

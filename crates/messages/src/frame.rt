@@ -39,7 +39,7 @@ impl<'a> Message<'a> {
     /// A message about something that has no line to show.
     pub fn about(number: u8, subject: CowStr<'a>, reason: Reason<'a>) -> Message<'a>
         ensures number { result.number ≡ number }
-        ensures title { result.reason.title.now ≡ reason.entry.title.now }
+        ensures reason { result.reason ≡ reason.entry }
     {
         let subject = Subject::Whole(subject);
         Message {
@@ -58,7 +58,7 @@ impl<'a> Message<'a> {
         reason: Reason<'a>,
     ) -> Result<Message<'a>, AllocError>
         ensures number { IfOk result (λ message. message.number ≡ number) }
-        ensures title { IfOk result (λ message. message.reason.title.now ≡ reason.entry.title.now) }
+        ensures reason { IfOk result (λ message. message.reason ≡ reason.entry) }
     {
         let subject = Subject::Part(Snippet::of(heap, file, span)?);
         Ok(Message {

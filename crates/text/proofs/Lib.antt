@@ -1,3 +1,4 @@
+pub mod Hashes
 pub mod Opening
 pub mod Turns
 pub mod Readiness

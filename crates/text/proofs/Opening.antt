@@ -12,7 +12,7 @@ use Rattle.grammar.specs.Names.{same, next, distance}
 use Rattle.grammar.specs.Token.{Name}
 use Rattle.book.specs.Books.{Found}
 use Rattle.book.proofs.Finding.{later, distance_front, distance_back, distance-<}
-use Rattle.text.specs.Scopes.{bytes_of, open_names, Restored}
+use Rattle.text.specs.Scopes.{spelled, open_names, Restored}
 use Rattle.text.specs.declared.scope.Scope.{Scope}
 
 -- ── the first name that is another ──
@@ -56,8 +56,8 @@ module _ {X : Type 0} (f : X → Name) (x : Name) where
 -- ── names that open and close ──
 
 pub first_open : (a : Scope) (x : Name)
-    → Found (open_names a) x (position (λ y. same x (bytes_of y)) (reverse a.names.items))
-first_open a x = found_first bytes_of x (reverse a.names.items)
+    → Found (open_names a) x (position (λ y. same x (spelled y)) (reverse a.names.items))
+first_open a x = found_first spelled x (reverse a.names.items)
 
 -- a name that is looked up among the open ones first, and behind them
 pub behind_open : (xs ys : List Name) (x : Name) (n : ℕ) (P : Type 0) (o r : Index ℕ) → n ≡ length xs → Found xs x o
@@ -72,14 +72,14 @@ behind_open xs ys x n P None r e f h late = let l = late h in by l.0 l.1 l.2
         ∙ ap (λ k. some (k + d)) (sym e))
 
 pub length_open : (a : Scope) → length (open_names a) ≡ length a.names.items
-length_open a = length-map (reverse a.names.items) bytes_of ∙ length-reverse a.names.items
+length_open a = length-map (reverse a.names.items) spelled ∙ length-reverse a.names.items
 
 pub restored_names : (a b : Scope) → Restored a b → open_names b ≡ open_names a
-restored_names a b r = ap (λ l. map bytes_of (reverse l)) r
+restored_names a b r = ap (λ l. map spelled (reverse l)) r
 
 -- a name that is looked up among the names of a scope first, and behind them
 pub behind_scope : (a : Scope) (ys : List Name) (x : Name) (n : ℕ) (P : Type 0) (o r : Index ℕ)
-    → n ≡ length a.names.items → o ≡ position (λ y. same x (bytes_of y)) (reverse a.names.items)
+    → n ≡ length a.names.items → o ≡ position (λ y. same x (spelled y)) (reverse a.names.items)
     → MatchOption o P (λ d. r ≡ Some d) → (P → (y : Index ℕ) × Found ys x y
     × MatchOption y (r ≡ None) (λ d. r ≡ Some (n + d))) → Found (open_names a ++ ys) x r
 behind_scope a ys x n P o r long first h late =

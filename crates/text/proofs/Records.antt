@@ -22,7 +22,7 @@ use Rattle.grammar.specs.Automaton.{is_end}
 use Rattle.grammar.proofs.Verdicts.{means}
 use Rattle.text.specs.Parsing.{source, at, nowhere, Began, ReadsExpr}
 use Rattle.text.specs.declared.parser.Parser.{Parser}
-use Rattle.text.specs.Scopes.{bytes_of, open_names}
+use Rattle.text.specs.Scopes.{spelled, open_names}
 use Rattle.text.specs.Writing.{written}
 
 -- a table that began empty
@@ -36,7 +36,7 @@ grown_held t₀ table t root z g = record {
 }
 
 pub none_open : (scope : Scope) → scope.names.items ≡ [] → open_names scope ≡ []
-none_open scope e = ap (λ l. map bytes_of (reverse l)) e
+none_open scope e = ap (λ l. map spelled (reverse l)) e
 
 -- a record is four bytes longer than its tree
 pub record_length : (readings : ℕ) (t : Tree) → length (record_of readings t) ≡ 4 + length (encode t)

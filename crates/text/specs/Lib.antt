@@ -1,3 +1,4 @@
+pub mod Spellings
 pub mod Scopes
 pub mod Standing
 pub mod Faults

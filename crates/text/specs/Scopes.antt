@@ -1,17 +1,17 @@
 -- Which names are open.
-use Rattle.std.specs.Prelude.{◌≡◌, ℕ, List, [], map, reverse, Some, None, Option}
-use Rattle.std.specs.Borrow.{Bor}
+use Rattle.std.specs.Prelude.{◌≡◌, List, map, reverse}
 use Rattle.grammar.specs.Token as plain
+use Rattle.text.specs.Spellings.{bytes_of}
+use Rattle.text.specs.declared.spelling.Spelling.{Spelling}
 use Rattle.text.specs.declared.scope.Scope.{Scope}
 
--- the bytes of a name; a place that is not used has none
-abbrev pub bytes_of : Option (Bor (List ℕ)) → plain.Name
-bytes_of (Some name) = name.now
-bytes_of None = []
+-- the bytes of a name
+abbrev pub spelled : Spelling → plain.Name
+spelled x = bytes_of x.name
 
 -- the names of a scope, the newest first
 abbrev pub open_names : Scope → List plain.Name
-open_names scope = map bytes_of (reverse scope.names.items)
+open_names scope = map spelled (reverse scope.names.items)
 
 -- the same names are open
 abbrev pub Restored : Scope → Scope → Type 0

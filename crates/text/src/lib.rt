@@ -13,4 +13,5 @@ pub mod fault;
 mod parser;
 pub mod refusal;
 mod scope;
+mod spelling;
 mod write;

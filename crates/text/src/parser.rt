@@ -6,6 +6,7 @@ ghost use Rattle.text.specs.Standing.{stand};
 
 use crate::fault::CompileFault;
 use crate::scope::{Opened, Scope};
+use crate::spelling::Spelling;
 use book::book::Book;
 use grammar::Mark;
 use lexer::fault::LexFault;
@@ -160,7 +161,7 @@ impl<'a> Parser<'a> {
         ensures reads { ReadsExpr (source self.old) (name.now ∷ open_names scope.old) self.old self.new result }
     {
         let before = scope.names.len();
-        scope.put(name);
+        scope.put(Spelling::of(name));
         let opened = Opened { scope, before };
         let root = self.expr(opened.scope)?;
         Ok(root)

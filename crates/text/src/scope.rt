@@ -1,24 +1,22 @@
 //! The names that are open while a text is read, and looking names up.
-ghost use Rattle.std.specs.Prelude.{◌≡◌, ◌+◌, ◌<◌, [], ◌∷◌, ◌++◌, Some, position, reverse, take};
+ghost use Rattle.std.specs.Prelude.{◌≡◌, ◌+◌, ◌<◌, [], ◌∷◌, ◌++◌, position, reverse, take};
 ghost use Rattle.arrayvec.specs.ArrayVec.{array_vec_len};
 ghost use Rattle.book.specs.Books.{names, Found};
 ghost use Rattle.grammar.specs.Names.{same};
-ghost use Rattle.text.specs.Scopes.{bytes_of, open_names};
+ghost use Rattle.text.specs.Scopes.{spelled, open_names};
 
+use crate::spelling::Spelling;
 use arrayvec::ArrayVec;
 use book::book::Book;
-use book::name::same_bytes;
 use syntax::limits::MOST_TEXT;
 
 /// More names than a text can have open at once: each takes three tokens to open.
 pub(crate) const MOST_OPEN: usize = MOST_TEXT / 3 + 1;
 
 /// The open names, each a part of the text, the newest last.
-// A place that is not used holds `None`, which is all zero, so that a new scope is blank memory: a blank slice is a pointer, and
-// one would be put into each of the places, for each text.
 #[derive(Drop)]
 pub(crate) struct Scope<'a> {
-    pub(crate) names: ArrayVec<Option<&'a [u8]>, MOST_OPEN>,
+    pub(crate) names: ArrayVec<Spelling<'a>, MOST_OPEN>,
 }
 
 /// A name is open as long as this guard lives: on every way out of a body, a `?` while it lives included, the count of
@@ -47,23 +45,21 @@ impl<'a> Scope<'a> {
     }
 
     /// Puts a name before the others.
-    pub(crate) fn put(&mut self, name: &'a [u8])
+    pub(crate) fn put(&mut self, name: Spelling<'a>)
         requires { array_vec_len self.old.names < 1366 }
-        ensures { self.new.names.items ≡ self.old.names.items ++ Some name.entry ∷ [] }
+        ensures { self.new.names.items ≡ self.old.names.items ++ name.entry ∷ [] }
     {
-        self.names.push(Some(name));
+        self.names.push(name);
     }
 
     /// How many open names stand before this one; none where it is not open.
-    // Drawn into the parser's walk the search takes half as long again.
+    // Apart from the parser's walk, so that its loop has the registers to itself.
     #[inline(never)]
     fn find(&self, name: &[u8]) -> Option<usize>
-        ensures { result ≡ position (λ x. same name.now (bytes_of x)) (reverse self.now.names.items) }
+        ensures { result ≡ position (λ x. same name.now (spelled x)) (reverse self.now.names.items) }
     {
-        self.names
-            .iter()
-            .rev()
-            .position(|open| same_bytes(name, open.unwrap_or(&[])))
+        let sought = Spelling::of(name);
+        self.names.iter().rev().position(|open| sought.is(open))
     }
 
     /// How many names in force stand before this one, readings behind all open names; none where it
