@@ -59,7 +59,7 @@ impl Refusal<'_> {
             "place": self.place,
             "line": line,
             "column": column,
-            "title": reason.title.as_str(),
+            "title": reason.title,
             "why": why.as_str(),
             "help": help.as_str()
         })?

@@ -22,3 +22,4 @@ pub mod refusal;
 pub mod rule_text;
 mod snippet;
 pub mod tokens;
+pub mod written;

@@ -27,7 +27,7 @@ pub fn refused(
 }
 
 /// Why a name is refused, and what to do.
-fn reason_of(heap: Global, fault: NameFault, name: &[u8]) -> Result<Reason<'static>, AllocError> {
+fn reason_of(heap: Global, fault: NameFault, name: &[u8]) -> Result<Reason, AllocError> {
     match fault {
         NameFault::Full => {
             let why = format!(in heap; "a rule has at most {MOST_READINGS} readings")?;

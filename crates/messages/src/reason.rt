@@ -1,53 +1,31 @@
 //! What a message says: what is wrong, why it is refused, and what to write instead.
+ghost use Rattle.std.specs.Prelude.{◌≡◌};
+
 use std::borrow::CowStr;
 
+/// The title is a constant, which may be kept longer than the message.
 #[derive(Drop)]
-pub struct Reason<'a> {
-    pub title: CowStr<'a>,
-    pub why: CowStr<'a>,
-    pub help: CowStr<'a>,
+pub struct Reason {
+    pub title: &'static str,
+    pub why: CowStr<'static>,
+    pub help: CowStr<'static>,
 }
 
-impl<'a> Reason<'a> {
+impl Reason {
     /// A reason of parts that are known beforehand or were written for the case.
-    pub fn new<T: Into<CowStr<'a>>, W: Into<CowStr<'a>>, H: Into<CowStr<'a>>>(
-        title: T,
+    pub fn new<W: Into<CowStr<'static>>, H: Into<CowStr<'static>>>(
+        title: &'static str,
         why: W,
         help: H,
-    ) -> Reason<'a>
-        ensures title { T.converts title result.title }
+    ) -> Reason
+        ensures title { result.title.now ≡ title.now }
         ensures why { W.converts why result.why }
         ensures help { H.converts help result.help }
     {
         Reason {
-            title: title.into(),
+            title,
             why: why.into(),
             help: help.into(),
         }
-    }
-}
-
-#[cfg(test)]
-mod tests {
-    use super::*;
-    use std::alloc::{AllocError, Global};
-    use std::test::Fail;
-
-    /// A reason that outlives the words it is made of.
-    fn titled(heap: Global, title: &str) -> Result<Reason<'static>, AllocError> {
-        let title = String::from_str(heap, title)?;
-        Ok(Reason::new(title, "why", "help"))
-    }
-
-    #[test]
-    fn outlives_its_words(rt: HostRuntime) -> Result<(), Fail> {
-        let heap = rt.alloc();
-        let reason = {
-            let node = 7;
-            let words = format!(in heap; "node {node} is missing")?;
-            titled(heap, words.as_str())?
-        };
-        assert_eq!(rt; reason.title.as_str(), "node 7 is missing");
-        Ok(())
     }
 }

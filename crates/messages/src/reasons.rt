@@ -17,11 +17,7 @@ use text::fault::CompileFault;
 
 impl RuleText<'_, '_> {
     /// The reason for a refusal.
-    pub(crate) fn reason(
-        &self,
-        heap: Global,
-        fault: CompileFault,
-    ) -> Result<Reason<'static>, AllocError> {
+    pub(crate) fn reason(&self, heap: Global, fault: CompileFault) -> Result<Reason, AllocError> {
         match fault {
             CompileFault::TooLong => self.too_long(heap),
             CompileFault::Lex(LexFault::NoToken(place)) => Ok(self.no_token(place)),
@@ -33,7 +29,7 @@ impl RuleText<'_, '_> {
         }
     }
 
-    fn too_long(&self, heap: Global) -> Result<Reason<'static>, AllocError> {
+    fn too_long(&self, heap: Global) -> Result<Reason, AllocError> {
         let length = self.text.len();
         let more = if self.whole.len() < MOST_READ {
             ""
@@ -45,7 +41,7 @@ impl RuleText<'_, '_> {
         Ok(Reason::new("the text is too long", why, help))
     }
 
-    fn too_many_nodes(&self, heap: Global) -> Result<Reason<'static>, AllocError> {
+    fn too_many_nodes(&self, heap: Global) -> Result<Reason, AllocError> {
         let nodes = nodes_of_sentence(self.text);
         let why = format!(in heap; "its tree has {nodes} nodes, and a rule may have {MOST_NODES}")?;
         let help = "say a repeated part once by `let`, or make two rules of it";
@@ -53,7 +49,7 @@ impl RuleText<'_, '_> {
     }
 
     /// The record's size is found by writing it where there is room enough.
-    fn no_room(&self, heap: Global) -> Result<Reason<'static>, AllocError> {
+    fn no_room(&self, heap: Global) -> Result<Reason, AllocError> {
         let room = self.origin.room;
         let why = match self.record(heap, MOST_RECORD)? {
             Ok(record) => {
@@ -67,12 +63,12 @@ impl RuleText<'_, '_> {
     }
 
     /// Guesses from the bytes what was meant.
-    fn no_token(&self, place: usize) -> Reason<'static> {
+    fn no_token(&self, place: usize) -> Reason {
         let (why, help) = meant_by(self.text.get(place..).unwrap_or(&[]));
         Reason::new("no token begins here", why, help)
     }
 
-    fn unknown(&self, heap: Global, place: usize) -> Result<Reason<'static>, AllocError> {
+    fn unknown(&self, heap: Global, place: usize) -> Result<Reason, AllocError> {
         let why = "it names no reading, and no `fun` or `let` around it opens it";
         let help = self.help_for_unknown(heap, place)?;
         Ok(Reason::new("unknown name", why, help))
@@ -102,7 +98,7 @@ impl RuleText<'_, '_> {
     }
 
     /// Says what should have stood in the token's place, or what is not finished before it.
-    fn unexpected(&self, heap: Global, place: usize) -> Result<Reason<'static>, AllocError> {
+    fn unexpected(&self, heap: Global, place: usize) -> Result<Reason, AllocError> {
         let context = Context::at(heap, self.text, place)?;
         let why = match (context.last, context.keyword_for_name(), context.wanted()) {
             (None, _, _) => CowStr::from("a rule begins with an expression"),
@@ -141,7 +137,7 @@ impl RuleText<'_, '_> {
     }
 }
 
-fn out_of_range() -> Reason<'static> {
+fn out_of_range() -> Reason {
     Reason::new(
         "the number is out of range",
         "numbers run from -2147483648 to 2147483647",

@@ -50,7 +50,7 @@ struct Clash {
 }
 
 /// Why a node is the first at which the types do not go together, and what to write instead in a text.
-pub(crate) fn clash_at(heap: Global, node: NodeAt) -> Result<Reason<'static>, AllocError> {
+pub(crate) fn clash_at(heap: Global, node: NodeAt) -> Result<Reason, AllocError> {
     let clash = Clash::at(heap, node)?;
     let why = clash.why(heap)?;
     Ok(Reason::new(clash.title(), why, clash.advice()))

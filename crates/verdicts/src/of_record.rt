@@ -76,7 +76,7 @@ impl Refused<'_> {
     }
 
     /// The reason for the refusal, for a text. Where `cut` is said, there are more bytes than were read.
-    pub(crate) fn reason(&self, heap: Global, cut: bool) -> Result<Reason<'static>, AllocError> {
+    pub(crate) fn reason(&self, heap: Global, cut: bool) -> Result<Reason, AllocError> {
         let given = Given {
             bytes: self.record,
             cut,

@@ -21,11 +21,7 @@ pub(crate) struct Given<'a> {
 
 impl Given<'_> {
     /// The reason for a refusal.
-    pub(crate) fn reason(
-        &self,
-        heap: Global,
-        fault: RecordFault,
-    ) -> Result<Reason<'static>, AllocError> {
+    pub(crate) fn reason(&self, heap: Global, fault: RecordFault) -> Result<Reason, AllocError> {
         match fault {
             RecordFault::Length => self.length(heap),
             RecordFault::Version => self.version(heap),
@@ -39,7 +35,7 @@ impl Given<'_> {
         }
     }
 
-    fn length(&self, heap: Global) -> Result<Reason<'static>, AllocError> {
+    fn length(&self, heap: Global) -> Result<Reason, AllocError> {
         let why = match self.bytes {
             [high, low, others @ ..] => {
                 let said = u16::from_be_bytes([*high, *low]);
@@ -59,7 +55,7 @@ impl Given<'_> {
         Ok(Reason::new("this is not the length of the record", why, help))
     }
 
-    fn version(&self, heap: Global) -> Result<Reason<'static>, AllocError> {
+    fn version(&self, heap: Global) -> Result<Reason, AllocError> {
         let why = match self.bytes.get(2) {
             Some(byte) => CowStr::from(format!(in heap;
                 "byte 2 is {byte:02x}, and the version is {VERSION:02x}"
@@ -69,7 +65,7 @@ impl Given<'_> {
         Ok(Reason::new("this is not the version", why, ANEW))
     }
 
-    fn readings(&self, heap: Global) -> Result<Reason<'static>, AllocError> {
+    fn readings(&self, heap: Global) -> Result<Reason, AllocError> {
         let why = match self.bytes.get(3) {
             Some(byte) => CowStr::from(format!(in heap;
                 "byte 3 is {byte:02x}, and a rule has at most {MOST_READINGS} readings"
@@ -79,7 +75,7 @@ impl Given<'_> {
         Ok(Reason::new("this is no count of readings", why, ANEW))
     }
 
-    fn no_node(&self, heap: Global, place: usize) -> Result<Reason<'static>, AllocError> {
+    fn no_node(&self, heap: Global, place: usize) -> Result<Reason, AllocError> {
         let node = Walk::over(self.bytes).count();
         let why = format!(in heap;
             "the record ends before byte {place}, where node {node} of the tree is to begin"
@@ -87,7 +83,7 @@ impl Given<'_> {
         Ok(Reason::new("a node is missing", why, ANEW))
     }
 
-    fn unknown_kind(&self, heap: Global, place: usize) -> Result<Reason<'static>, AllocError> {
+    fn unknown_kind(&self, heap: Global, place: usize) -> Result<Reason, AllocError> {
         let why = match self.bytes.get(place) {
             Some(byte) => format!(in heap;
                 "byte {place} is {byte:02x}, and the kinds are 01 to 0a"
@@ -98,7 +94,7 @@ impl Given<'_> {
     }
 
     /// The node that is cut short is the last one that begins.
-    fn cut_short(&self, heap: Global) -> Result<Reason<'static>, AllocError> {
+    fn cut_short(&self, heap: Global) -> Result<Reason, AllocError> {
         let Some((place, kind)) = Walk::over(self.bytes).last() else {
             let why = "the record ends before its first node";
             return Ok(Reason::new("a node is cut short", why, ANEW));
@@ -115,7 +111,7 @@ impl Given<'_> {
         Ok(Reason::new("a node is cut short", why, ANEW))
     }
 
-    fn unbound(&self, heap: Global, place: usize) -> Result<Reason<'static>, AllocError> {
+    fn unbound(&self, heap: Global, place: usize) -> Result<Reason, AllocError> {
         let why = match self.bytes.get(place..) {
             Some([_, high, low, ..]) => {
                 let distance = u16::from_be_bytes([*high, *low]);
@@ -140,7 +136,7 @@ impl Given<'_> {
         Ok(standing.map_or(0, |standing| standing.around))
     }
 
-    fn spare(&self, heap: Global, place: usize) -> Result<Reason<'static>, AllocError> {
+    fn spare(&self, heap: Global, place: usize) -> Result<Reason, AllocError> {
         let spare = self.bytes.len().saturating_sub(place);
         let why = format!(in heap;
             "the tree ends before byte {place}; bytes from there on: {spare}"
@@ -149,7 +145,7 @@ impl Given<'_> {
     }
 }
 
-fn too_many_nodes(heap: Global, place: usize) -> Result<Reason<'static>, AllocError> {
+fn too_many_nodes(heap: Global, place: usize) -> Result<Reason, AllocError> {
     let why = format!(in heap;
         "the node at byte {place} is the {}th, and a rule has at most {MOST_NODES}",
         MOST_NODES + 1
